@@ -1,0 +1,6 @@
+pub mod Bits
+pub mod Formed
+pub mod Place
+pub mod Writer
+pub mod Digits
+pub mod RoundTrip

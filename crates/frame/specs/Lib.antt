@@ -1,0 +1,6 @@
+pub mod Format
+pub mod Write
+pub mod Read
+pub mod Reserved
+pub mod RoundTrip
+pub mod XferRdy

@@ -1,0 +1,46 @@
+-- The frame reader: what it answers to any bytes.
+use Prim.Native.Nat.{ℕ, _-_, _%_}
+use mathlib.Core.List.{List}
+use mathlib.Core.Bool.{Bool, _&&_}
+use lib.ListN.{length, getD, take, drop}
+use lib.Dec.{leb, eqb}
+use Rattle.status.specs.Pick.{pick}
+use Rattle.status.specs.declared.Refusal.the-variants.{MalformedFrame, UnexpectedFrameType}
+use Rattle.frame.specs.Format.{isType, field, flagsOf}
+use Rattle.frame.specs.declared.types.Header.{Header}
+use Rattle.frame.specs.declared.types.Decoded.{Decoded}
+use Rattle.frame.specs.declared.types.Decoded.the-variants.{Frame, Refused}
+
+-- "byte 11, bits 1 and 0: number of fill bytes"
+abbrev pub fillCount : List ℕ → ℕ
+fillCount b = getD b 11 0 % 4
+
+-- the table of "The frame"; "other header bits are reserved: ignored when read"
+unfoldable pub headerOf : List ℕ → Header
+headerOf b =
+    record {
+      kind = getD b 0 0;
+      dest = field b 1 3;
+      source = field b 5 3;
+      flags = flagsOf (getD b 10 0);
+      tag = field b 16 2;
+      tptt = field b 18 2;
+      offset = field b 20 4;
+    }
+
+-- not "under 24 or over 1,048 bytes, no multiple of four, or more fill than bytes after the header"
+abbrev pub wellFormed : List ℕ → Bool
+wellFormed b = leb 24 (length b) && leb (length b) 1048 && eqb (length b % 4) 0 && leb (fillCount b) (length b - 24)
+
+abbrev pub iuLength : List ℕ → ℕ
+iuLength b = length b - 24 - fillCount b
+
+abbrev pub iuOf : List ℕ → List ℕ
+iuOf b = take (iuLength b) (drop 24 b)
+
+-- 5, then 6, else the header and where the IU stands
+unfoldable pub decode : List ℕ → Decoded
+decode b =
+    pick (wellFormed b)
+    (pick (isType (getD b 0 0)) (Frame (headerOf b) 24 (iuLength b)) (Refused UnexpectedFrameType))
+    (Refused MalformedFrame)

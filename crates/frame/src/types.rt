@@ -1,0 +1,54 @@
+// The header of a frame, the XFER_RDY's IU, and what the writer and the readers answer.
+use status::Failure;
+use status::Refusal;
+
+// Byte 10.
+pub struct Flags {
+    // RETRY DATA FRAMES
+    pub retry: bool,
+    pub retransmit: bool,
+    // CHANGING DATA POINTER
+    pub cdp: bool,
+}
+
+pub struct Header {
+    // the type byte
+    pub kind: u8,
+    // hashed addresses, 24 bits each
+    pub dest: u32,
+    pub source: u32,
+    pub flags: Flags,
+    pub tag: u16,
+    // target port transfer tag
+    pub tptt: u16,
+    // data offset
+    pub offset: u32,
+}
+
+pub enum Written {
+    // the frame's length
+    Frame(usize),
+    Refused(Refusal),
+}
+
+pub enum Decoded {
+    // The IU is len bytes from start.
+    Frame {
+        header: Header,
+        start: usize,
+        len: usize,
+    },
+    Refused(Refusal),
+}
+
+pub struct XferRdy {
+    // requested offset
+    pub offset: u32,
+    // write data length
+    pub len: u32,
+}
+
+pub enum XferRdyIu {
+    Taken(XferRdy),
+    Failed(Failure),
+}

@@ -1,0 +1,31 @@
+-- The numbers of the paper's words ("Trade words"): 1 to 8 are refusals, 20 to 32 failures that end the port.
+use Prim.Native.Nat.{ℕ}
+use Rattle.status.specs.declared.Refusal.{Refusal}
+use Rattle.status.specs.declared.Refusal.the-variants.{BadRequest, TransferEnded, FrameSpaceShort, AnswerWithoutFrame, MalformedFrame, UnexpectedFrameType, WrongAddress, UnknownTag}
+use Rattle.status.specs.declared.Failure.{Failure}
+use Rattle.status.specs.declared.Failure.the-variants.{DataOffsetError, TooMuchData, IncorrectDataLength, XferRdyTooShort, XferRdyTooLong, XferRdyIncorrectWriteDataLength, XferRdyRequestedOffsetError, XferRdyNotExpected, NakReceived, AckNakTimeout, ConnectionLost, NexusLoss, ResponseTooShort}
+
+abbrev pub refusalNumber : Refusal → ℕ
+refusalNumber BadRequest = 1
+refusalNumber TransferEnded = 2
+refusalNumber FrameSpaceShort = 3
+refusalNumber AnswerWithoutFrame = 4
+refusalNumber MalformedFrame = 5
+refusalNumber UnexpectedFrameType = 6
+refusalNumber WrongAddress = 7
+refusalNumber UnknownTag = 8
+
+abbrev pub failureNumber : Failure → ℕ
+failureNumber DataOffsetError = 20
+failureNumber TooMuchData = 21
+failureNumber IncorrectDataLength = 22
+failureNumber XferRdyTooShort = 23
+failureNumber XferRdyTooLong = 24
+failureNumber XferRdyIncorrectWriteDataLength = 25
+failureNumber XferRdyRequestedOffsetError = 26
+failureNumber XferRdyNotExpected = 27
+failureNumber NakReceived = 28
+failureNumber AckNakTimeout = 29
+failureNumber ConnectionLost = 30
+failureNumber NexusLoss = 31
+failureNumber ResponseTooShort = 32
