@@ -12,9 +12,9 @@ use lib.Seq.{take-at, getD-take, getD-drop, getD-append-add}
 use borrow.Author.Tests.{le-leb, eq-eqb, lt-ltb, ltb-true, leb-true}
 use Rattle.status.specs.Pick.{pick}
 use Rattle.status.specs.declared.Refusal.the-variants.{MalformedFrame, UnexpectedFrameType}
-use Rattle.status.proofs.Choose.{and-true, in-true}
+use Rattle.status.proofs.Choose.{each, in-true}
 use Rattle.frame.specs.Format.{isType, field, fillOf, headerBytes, dataBytes, encode}
-use Rattle.frame.specs.Write.{writable}
+use Rattle.frame.specs.Write.{request, writable}
 use Rattle.frame.specs.Read.{fillCount, headerOf, wellFormed, iuLength, iuOf, decode}
 use Rattle.frame.specs.Reserved.{bytesAt, cleared, kept}
 use Rattle.frame.specs.RoundTrip.{Bytes, InRange, ComesBack, WrittenAgain, Differs, DiffersAtMost, XferRdyComesBack}
@@ -37,10 +37,8 @@ pub record Writable (h : Header) (n : ℕ) : Type 0 where
 
 pub writable-gives : (h : Header) (n : ℕ) → writable h n ≡ true → Writable h n
 writable-gives h n e =
-    let p = and-true _ _ e in
-    let q = and-true _ _ (p .0) in
-    let r = and-true _ _ (q .0) in
-    record { kind = r .0; dest = ltb-true _ _ (r .1); source = ltb-true _ _ (q .1); most = leb-true _ _ (p .1) }
+    let t = each (request h n) e in
+    record { kind = t .0; dest = omega (arith, ltb-true); source = omega (arith, ltb-true); most = omega (arith, leb-true) }
 
 module _ (h : Header) (iu : List ℕ) where
   fill-back : fillCount (encode h iu) ≡ fillOf (length iu)

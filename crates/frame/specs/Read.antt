@@ -1,10 +1,10 @@
 -- The frame reader: what it answers to any bytes.
 use Prim.Native.Nat.{ℕ, _-_, _%_}
-use mathlib.Core.List.{List}
-use mathlib.Core.Bool.{Bool, _&&_}
+use mathlib.Core.List.{List, [], _∷_}
+use mathlib.Core.Bool.{Bool}
 use lib.ListN.{length, getD, take, drop}
 use lib.Dec.{leb, eqb}
-use Rattle.status.specs.Pick.{pick}
+use Rattle.status.specs.Pick.{pick, all}
 use Rattle.status.specs.declared.Refusal.the-variants.{MalformedFrame, UnexpectedFrameType}
 use Rattle.frame.specs.Format.{isType, field, flagsOf}
 use Rattle.frame.specs.declared.types.Header.{Header}
@@ -29,8 +29,11 @@ headerOf b =
     }
 
 -- not "under 24 or over 1,048 bytes, no multiple of four, or more fill than bytes after the header"
+abbrev pub form : List ℕ → List Bool
+form b = leb 24 (length b) ∷ leb (length b) 1_048 ∷ eqb (length b % 4) 0 ∷ leb (fillCount b) (length b - 24) ∷ []
+
 abbrev pub wellFormed : List ℕ → Bool
-wellFormed b = leb 24 (length b) && leb (length b) 1048 && eqb (length b % 4) 0 && leb (fillCount b) (length b - 24)
+wellFormed b = all (form b)
 
 abbrev pub iuLength : List ℕ → ℕ
 iuLength b = length b - 24 - fillCount b

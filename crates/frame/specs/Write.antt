@@ -1,10 +1,10 @@
 -- The frame writer: what it answers and what it leaves in the output buffer.
 use Prim.Native.Nat.{ℕ, _+_, _^_}
-use mathlib.Core.List.{List, _++_}
-use mathlib.Core.Bool.{Bool, _&&_}
+use mathlib.Core.List.{List, [], _∷_, _++_}
+use mathlib.Core.Bool.{Bool}
 use lib.ListN.{length, take, drop}
 use lib.Dec.{ltb, leb}
-use Rattle.status.specs.Pick.{pick}
+use Rattle.status.specs.Pick.{pick, all}
 use Rattle.status.specs.declared.Refusal.the-variants.{BadRequest, FrameSpaceShort}
 use Rattle.frame.specs.Format.{isType, fillOf, encode}
 use Rattle.frame.specs.declared.types.Header.{Header}
@@ -12,8 +12,11 @@ use Rattle.frame.specs.declared.types.Written.{Written}
 use Rattle.frame.specs.declared.types.Written.the-variants.{Frame, Refused}
 
 -- "the writer 1 (also for another type or an IU over 1,024 bytes)": a hashed address has 24 bits
+abbrev pub request : Header → ℕ → List Bool
+request h n = isType (h .kind) ∷ ltb (h .dest) (2 ^ 24) ∷ ltb (h .source) (2 ^ 24) ∷ leb n 1_024 ∷ []
+
 abbrev pub writable : Header → ℕ → Bool
-writable h n = isType (h .kind) && ltb (h .dest) (2 ^ 24) && ltb (h .source) (2 ^ 24) && leb n 1024
+writable h n = all (request h n)
 
 -- 1, then 3, else the frame's length
 abbrev pub writeAnswer : Header → List ℕ → List ℕ → Written

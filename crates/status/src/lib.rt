@@ -1,6 +1,7 @@
 // The words of the paper ("Trade words"): eight refusals and thirteen failures, each with its number.
 ghost use mathlib.Core.Path.{_≡_};
 ghost use Rattle.status.specs.Number.{refusalNumber, failureNumber};
+ghost use Rattle.status.specs.Entry.{entryOf};
 
 // A refusal changes nothing.
 pub enum Refusal {
@@ -68,4 +69,23 @@ impl Failure {
             Failure::ResponseTooShort => 32,
         }
     }
+}
+
+// Whether a call is refused before its own work.
+pub enum Entry {
+    Open,
+    Closed(Refusal),
+}
+
+// 1, then 2. `ok`: number 1 does not apply.
+pub fn admit(ok: bool, ended: bool) -> Entry
+    ensures { λ r. ⌜ r ≡ entryOf ok ended ⌝ }
+{
+    if !ok {
+        return Entry::Closed(Refusal::BadRequest);
+    }
+    if ended {
+        return Entry::Closed(Refusal::TransferEnded);
+    }
+    Entry::Open
 }

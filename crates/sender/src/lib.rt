@@ -1,0 +1,18 @@
+// The sending port: it serves a target's read and an initiator's write burst, from base to end.
+mod answer;
+mod record;
+mod transmit;
+mod types;
+
+pub use answer::ack_nak_timeout;
+pub use answer::ack_received;
+pub use answer::connection_lost;
+pub use answer::nak_received;
+pub use answer::nexus_lost;
+pub use record::holds;
+pub use record::read;
+pub use transmit::next_frame;
+pub use types::Report;
+pub use types::Sender;
+pub use types::Setup;
+pub use types::Stepped;

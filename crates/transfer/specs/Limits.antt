@@ -1,0 +1,27 @@
+-- "Limits of a transfer": "byte count 1 to 16,777,216. Data per frame a multiple of four, 4 to 1,024. Unanswered frames (the window) 1 to 64.
+-- Retry limit 0 to 15 .. Write burst 1 to the byte count"; and "a hashed address passes 24 bits" is 1 too.
+use Prim.Native.Nat.{ℕ, _%_, _^_, _-_}
+use mathlib.Core.Bool.{Bool}
+use mathlib.Core.List.{List, [], _∷_}
+use lib.Dec.{leb, eqb}
+use Rattle.status.specs.Pick.{pick, all}
+use Rattle.status.specs.declared.Refusal.the-variants.{BadRequest}
+use Rattle.transfer.specs.declared.Transfer.{Transfer}
+use Rattle.transfer.specs.declared.Made.{Made}
+use Rattle.transfer.specs.declared.Made.the-variants.{Taken, Refused}
+
+unfoldable pub limits : Transfer → List Bool
+limits t =
+    leb 1 (t .count) ∷ leb (t .count) 16_777_216 ∷
+    leb 4 (t .size) ∷ leb (t .size) 1_024 ∷ eqb (t .size % 4) 0 ∷
+    leb 1 (t .window) ∷ leb (t .window) 64 ∷
+    leb (t .limit) 15 ∷
+    leb 1 (t .burst) ∷ leb (t .burst) (t .count) ∷
+    leb (t .local) (2 ^ 24 - 1) ∷ leb (t .remote) (2 ^ 24 - 1) ∷ []
+
+unfoldable pub limitsHold : Transfer → Bool
+limitsHold t = all (limits t)
+
+-- the constructor: a transfer outside the limits is 1
+unfoldable pub madeOf : Transfer → Made
+madeOf t = pick (limitsHold t) (Taken t) (Refused BadRequest)
