@@ -3,7 +3,7 @@ use Prim.Native.Nat.{ℕ, _^_, _≤_, _<_}
 use mathlib.Core.Bool.{true}
 use mathlib.Core.Path.{_≡_}
 use native.Mathlib.Omega.{arith}
-use borrow.Author.Tests.{leb-true, ltb-true, eqb-true, le-leb, lt-ltb}
+use borrow.Author.Tests.{leb-true, ltb-true, eqb-true, le-leb, lt-ltb, eq-eqb}
 use Rattle.status.proofs.Choose.{each}
 use Rattle.transfer.specs.Limits.{limitsHold}
 use Rattle.transfer.proofs.Bounds.{Bounds, bounds}
@@ -42,3 +42,7 @@ holds-again s l m =
 pub lent-holds : (s : Sender) (n : ℕ) → lentOf s n ≡ true → (holdsOf s ≡ true) × (n ≡ s .transfer .count)
 unfolding lentOf
 lent-holds s n e = let h = each (lentTests s n) e in (h .0, eqb-true _ _ (h .1 .0))
+
+pub lent-again : (s : Sender) (n : ℕ) → holdsOf s ≡ true → n ≡ s .transfer .count → lentOf s n ≡ true
+unfolding lentOf
+lent-again s n h e = simp (h, eq-eqb _ _ e)

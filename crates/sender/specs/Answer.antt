@@ -34,28 +34,28 @@ loweredOf s nak =
       ended = s .ended;
     }
 
--- a failure ends the port: nothing is unanswered and no NAK pending; the rest stays
-abbrev pub failedOf : Sender → Failure → Stepped
-failedOf s cause =
+-- an ended record has nothing unanswered and no NAK pending; the rest stays
+abbrev pub endedOf : Sender → Sender
+endedOf s =
     record {
-      sender =
-          record {
-            transfer = s .transfer;
-            limit = s .limit;
-            tptt = s .tptt;
-            base = s .base;
-            end = s .end;
-            next = s .next;
-            balance = s .balance;
-            unanswered = 0;
-            nak = false;
-            cdp = s .cdp;
-            retries = s .retries;
-            frames = s .frames;
-            ended = true;
-          };
-      report = Failed cause (s .frames);
+      transfer = s .transfer;
+      limit = s .limit;
+      tptt = s .tptt;
+      base = s .base;
+      end = s .end;
+      next = s .next;
+      balance = s .balance;
+      unanswered = 0;
+      nak = false;
+      cdp = s .cdp;
+      retries = s .retries;
+      frames = s .frames;
+      ended = true;
     }
+
+-- a failure ends the port
+abbrev pub failedOf : Sender → Failure → Stepped
+failedOf s cause = record { sender = endedOf s; report = Failed cause (s .frames) }
 
 -- "the next offset returns to the balance point (read) or base (write)"
 abbrev pub restartOf : Sender → ℕ

@@ -57,5 +57,8 @@ startOf t =
       ended = false;
     }
 
+abbrev pub readTests : Transfer → List Bool
+readTests t = limitsHold t ∷ not (t .write) ∷ []
+
 unfoldable pub readOf : Transfer → Setup
-readOf t = pick (all (limitsHold t ∷ not (t .write) ∷ [])) (Ready (startOf t)) (Refused BadRequest)
+readOf t = pick (all (readTests t)) (Ready (startOf t)) (Refused BadRequest)

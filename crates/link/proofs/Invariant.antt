@@ -1,0 +1,121 @@
+-- What holds of the world while the sending port has reported nothing (Live), and once it has (Done).
+-- The groups speak of field values, so an event that leaves a value alone leaves the group as it is.
+use Prim.Native.Nat.{ℕ, suc, _+_, _*_, _≤_, _<_}
+use mathlib.Core.List.{List, []}
+use mathlib.Core.Bool.{Bool, true, false}
+use mathlib.Core.Logic.{_⊎_}
+use mathlib.Core.Path.{_≡_}
+use lib.ListN.{length, getD}
+use Rattle.status.specs.Number.{failureNumber}
+use Rattle.status.specs.declared.Failure.{Failure}
+use Rattle.sender.specs.Record.{holdsOf}
+use Rattle.sender.specs.declared.types.Sender.{Sender}
+use Rattle.receiver.specs.Record as receiver
+use Rattle.receiver.specs.declared.types.Receiver.{Receiver}
+use Rattle.link.specs.Ports.{Ports}
+use Rattle.link.specs.World.{World, Answer, Report}
+use Rattle.link.proofs.Setting.{Setting, Sends, Takes, place, within, enough, piece}
+use Rattle.link.proofs.Simulates.{Simulates}
+use Rattle.link.proofs.Flight.{Flight, AllAck, SomeNak}
+
+module _ (S : Setting) where
+  -- what is stored is right: below the filled mark the sender's bytes, else as at the start
+  pub record Stored (sent received : List ℕ) (filled : ℕ) : Type 0 where
+    pub source : sent ≡ S .source
+    pub size : length received ≡ S .t .count
+    pub right : (i : ℕ) → S .base ≤ i → i < filled → getD received i 0 ≡ getD (S .source) i 0
+    pub rest : (i : ℕ) → (i < S .base) ⊎ (filled ≤ i) → getD received i 0 ≡ getD (S .before) i 0
+
+  -- next offset and restart point by frame numbers j and m
+  pub record Marked (write : Bool) (next balance m j : ℕ) : Type 0 where
+    pub next-at : next ≡ place S j
+    pub balance-at : balance ≡ place S m
+    pub restart-in : within S m
+    pub all-in : (i : ℕ) → i < j → within S i
+    pub from-base : write ≡ true → m ≡ 0
+
+  -- conservation: what is unanswered is on the way or lost; the frames on the way are those from k up to j
+  pub record Linked (frames : List (List ℕ)) (answers : List Answer) (unanswered lost owed : ℕ) (cdp c : Bool) (k m j : ℕ) : Type 0 where
+    pub flight : Flight (piece S) c k cdp j frames
+    pub pointed : c ≡ true → k ≡ m
+    pub from : m ≤ k
+    pub conserved : length frames + length answers + lost ≡ owed
+    pub same : unanswered ≡ owed
+
+  -- a NAK is pending only with frames unanswered; those were handed out in this attempt; else a frame is due
+  pub record Pending (nak cdp : Bool) (owed next m j : ℕ) : Type 0 where
+    pub nak-owed : nak ≡ true → 0 < owed
+    pub begun : 0 < owed → (m < j) × (cdp ≡ false)
+    pub undone : owed ≡ 0 → next ≡ S .end → ⊥
+
+  -- frames and retries are counted, R in all, and the retries are paid for by faults
+  pub record Counted (frames retries : ℕ) (handed : List (List ℕ)) (faults R m j : ℕ) : Type 0 where
+    pub frames-are : frames ≡ length handed
+    pub most : length handed ≤ R * enough S + j
+    pub since : retries ≤ R
+    pub ever : R ≤ S .limit * m + retries
+    pub paid : R ≤ faults
+
+  -- a clean attempt is in step
+  abbrev pub InStep : Bool → ℕ → Bool → ℕ → ℕ → Type 0
+  InStep c k waiting expected filled = (filled ≡ S .end) ⊎ ((c ≡ true) ⊎ ((waiting ≡ false) × (expected ≡ place S k)))
+
+  abbrev pub Dirty : List Answer → Bool → ℕ → Type 0
+  Dirty answers nak lost = SomeNak answers ⊎ ((nak ≡ true) ⊎ (0 < lost))
+
+  pub data Standing (answers : List Answer) (nak : Bool) (lost : ℕ) (c : Bool) (k : ℕ) (waiting : Bool) (expected filled R faults : ℕ) : Type 0 where
+    clean : AllAck answers → nak ≡ false → lost ≡ 0 → InStep c k waiting expected filled → Standing answers nak lost c k waiting expected filled R faults
+    dirty : Dirty answers nak lost → R < faults → Standing answers nak lost c k waiting expected filled R faults
+
+  module _ {P : Ports} (M : Simulates P (S .tptt)) where
+    pub record Ported (y : P .Receiving) (s : Sender) (r : Receiver) : Type 0 where
+      pub takes : M .TakesAs y r
+      pub send-for : Sends S s
+      pub take-for : Takes S r
+      pub s-holds : holdsOf s ≡ true
+      pub s-open : s .ended ≡ false
+      pub r-holds : receiver.holdsOf r ≡ true
+      pub r-open : r .ended ≡ false
+
+    pub record Live (w : World P) : Type 0 where
+      pub s : Sender
+      pub r : Receiver
+      pub c : Bool
+      pub k : ℕ
+      pub m : ℕ
+      pub j : ℕ
+      pub R : ℕ
+      pub sends : M .SendsAs (w .sending) s
+      pub ported : Ported (w .receiving) s r
+      pub stored : Stored (w .sent) (w .received) (r .filled)
+      pub reached : place S m ≤ r .filled
+      pub marked : Marked (s .transfer .write) (s .next) (s .balance) m j
+      pub linked : Linked (w .frames) (w .answers) (w .unanswered) (w .lost) (s .unanswered) (s .cdp) c k m j
+      pub pending : Pending (s .nak) (s .cdp) (s .unanswered) (s .next) m j
+      pub counted : Counted (s .frames) (s .retries) (w .handed) (w .faults) R m j
+      pub standing : Standing (w .answers) (s .nak) (w .lost) c k (r .waiting) (r .expected) (r .filled) R (w .faults)
+      pub silent : w .report ≡ Report.none
+
+    -- what was reported: delivery of every byte, or a failure that took more faults than the limit
+    pub data Reported (received : List ℕ) (handed : List (List ℕ)) (faults : ℕ) : Report → Type 0 where
+      delivers : ((i : ℕ) → S .base ≤ i → i < S .end → getD received i 0 ≡ getD (S .source) i 0) → Reported received handed faults (Report.delivered (length handed))
+      fails : (f : Failure) → 28 ≤ failureNumber f → failureNumber f ≤ 30 → S .limit < faults → Reported received handed faults (Report.failed f (length handed))
+
+    -- nothing moves any more
+    pub record Done (w : World P) : Type 0 where
+      pub s : Sender
+      pub sends : M .SendsAs (w .sending) s
+      pub send-for : Sends S s
+      pub s-holds : holdsOf s ≡ true
+      pub rests : (s .ended ≡ true) ⊎ ((s .ended ≡ false) × (s .unanswered ≡ 0) × (s .next ≡ s .end))
+      pub no-frames : w .frames ≡ []
+      pub no-answers : w .answers ≡ []
+      pub none-open : w .unanswered ≡ 0
+      pub source : w .sent ≡ S .source
+      pub size : length (w .received) ≡ S .t .count
+      pub rest : (i : ℕ) → (i < S .base) ⊎ (S .end ≤ i) → getD (w .received) i 0 ≡ getD (S .before) i 0
+      pub bounded : length (w .handed) ≤ enough S * (1 + w .faults)
+      pub reported : Reported (w .received) (w .handed) (w .faults) (w .report)
+
+    abbrev pub Inv : World P → Type 0
+    Inv w = Live w ⊎ Done w

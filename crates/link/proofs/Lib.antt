@@ -1,0 +1,17 @@
+pub mod Grid
+pub mod Setting
+pub mod Simulates
+pub mod Flight
+pub mod Placed
+pub mod Invariant
+pub mod Numbers
+pub mod Asking
+pub mod Arriving
+pub mod Retrying
+pub mod Answering
+pub mod Closing
+pub mod Resting
+pub mod Delivery
+pub mod ReadSimulates
+pub mod Theorem
+pub mod Worked

@@ -1,0 +1,149 @@
+-- Two worked runs of the delivery claim, of a read: the claim's premises can be met, and each of its parts says something. Proved in proofs/Worked.antt.
+use Prim.Native.Nat.{ℕ}
+use mathlib.Core.List.{List, [], _∷_}
+use mathlib.Core.Bool.{false}
+use mathlib.Core.Path.{_≡_}
+use lib.ListN.{length, getD, replicate}
+use Rattle.status.specs.declared.Failure.the-variants.{AckNakTimeout}
+use Rattle.transfer.specs.declared.Transfer.{Transfer}
+use Rattle.frame.specs.Format.{field}
+use Rattle.sender.specs.Record.{startOf}
+use Rattle.initiator.specs.Read as initiator
+use Rattle.link.specs.Ports.{Signal}
+use Rattle.link.specs.World.{World, Report, Event, ask, arrives, damaged, frame-lost, answered, answer-lost, timeout, cut, other, asking, signals, arriving, run, Allowed}
+use Rattle.link.specs.Claim.{Starts, Burst, Concluded, Delivers, fresh}
+use Rattle.link.specs.Reading.{readPorts}
+
+-- of each frame its data offset and byte 10, which is 1 where CDP is one
+abbrev pub pointers : List (List ℕ) → List (ℕ × ℕ)
+pointers [] = []
+pointers (f ∷ fs) = (field f 20 4, getD f 10 0) ∷ pointers fs
+
+-- the list of events es from a start: it is allowed, what stands at its end, and the claim there
+pub record Worked (b : Burst) (start : World readPorts) (es : List (Event readPorts)) (report : Report) (received : List ℕ) (faults count : ℕ) (handed : List (ℕ × ℕ)) : Type 1 where
+  -- the claim's premises
+  pub starts : Starts readPorts b start
+  pub allowed : Allowed start es
+  -- what the sending port has reported, the receiving port's buffer, the faults, the history of frames and its length
+  pub reports : run start es .report ≡ report
+  pub receives : run start es .received ≡ received
+  pub suffers : run start es .faults ≡ faults
+  pub counts : length (run start es .handed) ≡ count
+  pub hands-out : pointers (run start es .handed) ≡ handed
+  -- the premise of the claim's last two parts
+  pub concludes : Concluded (run start es)
+  pub claims : Delivers b start (run start es)
+
+-- a read of so many bytes, four per frame, with a window and a retry limit: the target's transfer record and the initiator's
+abbrev pub target : ℕ → ℕ → ℕ → Transfer
+target count window limit = record { write = false; count = count; size = 4; window = window; limit = limit; burst = count; local = 0xabcdef; remote = 0x123456; tag = 0x0012 }
+
+abbrev pub host : ℕ → ℕ → ℕ → Transfer
+host count window limit = record { write = false; count = count; size = 4; window = window; limit = limit; burst = count; local = 0x123456; remote = 0xabcdef; tag = 0x0012 }
+
+abbrev pub begin : ℕ → ℕ → ℕ → List ℕ → List ℕ → World readPorts
+begin count window limit sent received = fresh readPorts (startOf (target count window limit)) (initiator.startOf (host count window limit)) sent received
+
+-- an output buffer with space for a frame
+abbrev pub space : List ℕ
+space = replicate 28 0xff
+
+-- a DATA frame at offset 0 with another tag, 0013h
+abbrev pub foreign : List ℕ
+foreign =
+    0x01 ∷ 0x12 ∷ 0x34 ∷ 0x56 ∷ 0x00 ∷ 0xab ∷ 0xcd ∷ 0xef ∷
+    0x00 ∷ 0x00 ∷ 0x00 ∷ 0x00 ∷ 0x00 ∷ 0x00 ∷ 0x00 ∷ 0x00 ∷
+    0x00 ∷ 0x13 ∷ 0x00 ∷ 0x00 ∷ 0x00 ∷ 0x00 ∷ 0x00 ∷ 0x00 ∷
+    0x77 ∷ 0x77 ∷ 0x77 ∷ 0x77 ∷ []
+
+-- Ten bytes, so three frames: at 0, at 4 and at 8. Window 3, retry limit 5.
+abbrev pub ten : List ℕ
+ten = 10 ∷ 11 ∷ 12 ∷ 13 ∷ 14 ∷ 15 ∷ 16 ∷ 17 ∷ 18 ∷ 19 ∷ []
+
+unfoldable pub tenStart : World readPorts
+tenStart = begin 10 3 5 ten (replicate 10 0xff)
+
+abbrev pub tenBurst : Burst
+tenBurst = record { base = 0; end = 10; size = 4; limit = 5 }
+
+unfoldable pub tenEvents : List (Event readPorts)
+tenEvents =
+    -- a cut told with none unanswered changes nothing
+    other (signals Signal.cut) ∷
+    -- an ACK with none unanswered: 4
+    other (signals Signal.ack) ∷
+    -- an output buffer one byte short: 3
+    ask (replicate 27 0xff) ∷
+    -- frames 1, 2 and 3: at 0, 4 and 8
+    ask space ∷ ask space ∷ ask space ∷
+    -- no frame is due: "wait"
+    ask space ∷
+    -- fault 1: the frame at 0 is lost
+    frame-lost ∷
+    -- the frame at 4 is discarded, the receiving port waits for CDP; its ACK comes
+    arrives ∷ answered ∷
+    -- a frame with another tag: 8
+    other (arriving foreign (replicate 10 0xff)) ∷
+    -- a timeout, not early: the first retry; the frame at 8 is cleared
+    timeout ∷
+    -- frames 4 and 5: at 0 with CDP one, and 4
+    ask space ∷ ask space ∷
+    -- fault 2: the frame at 0 arrives damaged; its NAK comes and is pending: "wait"
+    damaged ∷ answered ∷ ask space ∷
+    -- the frame at 4 is discarded; with its ACK the second retry begins
+    arrives ∷ answered ∷
+    -- frame 6: at 0 with CDP one; it is stored, and its ACK moves the balance point to 4
+    ask space ∷ arrives ∷ answered ∷
+    -- frame 7: at 4; it is stored
+    ask space ∷ arrives ∷
+    -- fault 3: its ACK is lost
+    answer-lost ∷
+    -- fault 4: a cut with one unanswered; the first retry from 4
+    cut ∷
+    -- frames 8 and 9: at 4 with CDP one, and 8; the first is stored again
+    ask space ∷ ask space ∷ arrives ∷
+    -- fault 5: an early timeout; the second retry from 4; the ACK and the frame at 8 are cleared
+    timeout ∷
+    -- frames 10 and 11: at 4 with CDP one, and 8; both are stored, which fills the burst
+    ask space ∷ ask space ∷ arrives ∷
+    -- a data buffer of nine bytes: 1
+    other (asking (replicate 9 0) space) ∷
+    arrives ∷
+    -- the two ACKs: delivered
+    answered ∷ answered ∷
+    -- after the end a nexus loss at the sending port is 2, and no frame is there to arrive
+    other (signals Signal.loss) ∷ arrives ∷ []
+
+-- delivered with 11 frames, all ten bytes there; 5 faults, no more than the limit; 11 is at most 3 times 6
+abbrev pub TenDelivered : Type 1
+TenDelivered =
+    Worked tenBurst tenStart tenEvents (Report.delivered 11) ten 5 11
+    ((0, 0) ∷ (4, 0) ∷ (8, 0) ∷ (0, 1) ∷ (4, 0) ∷ (0, 1) ∷ (4, 0) ∷ (4, 1) ∷ (8, 0) ∷ (4, 1) ∷ (8, 0) ∷ [])
+
+-- Six bytes, so two frames: at 0 and at 4. Window 2, retry limit 1.
+unfoldable pub sixStart : World readPorts
+sixStart = begin 6 2 1 (20 ∷ 21 ∷ 22 ∷ 23 ∷ 24 ∷ 25 ∷ []) (replicate 6 0xff)
+
+abbrev pub sixBurst : Burst
+sixBurst = record { base = 0; end = 6; size = 4; limit = 1 }
+
+unfoldable pub sixEvents : List (Event readPorts)
+sixEvents =
+    -- frames 1 and 2: at 0 and 4
+    ask space ∷ ask space ∷
+    -- fault 1: the frame at 0 is lost; the frame at 4 is discarded and its ACK comes
+    frame-lost ∷ arrives ∷ answered ∷
+    -- a timeout, not early: the one retry
+    timeout ∷
+    -- frame 3: at 0 with CDP one; it is stored
+    ask space ∷ arrives ∷
+    -- fault 2: its ACK is lost
+    answer-lost ∷
+    -- a timeout, not early: a retry beyond the limit
+    timeout ∷
+    -- after the end a frame asked for is 2, and so is an ACK
+    ask space ∷ other (signals Signal.ack) ∷ []
+
+-- failed with 29 and 3 frames, four bytes there and the others as they were; 2 faults, more than the limit; 3 is at most 2 times 3
+abbrev pub SixFailed : Type 1
+SixFailed = Worked sixBurst sixStart sixEvents (Report.failed AckNakTimeout 3) (20 ∷ 21 ∷ 22 ∷ 23 ∷ 0xff ∷ 0xff ∷ []) 2 3 ((0, 0) ∷ (4, 0) ∷ (0, 1) ∷ [])
