@@ -15,7 +15,7 @@ use Rattle.frame.specs.declared.types.Decoded.the-variants.{Frame, Refus
 abbrev pub fillCount : List ℕ → ℕ
 fillCount b = getD b 11 0 % 4
 
--- the table of "The frame"; "other header bits are reserved: ignored when read"
+-- the table of "The frame"; "other header bits are reserved: .. ignored when read"
 unfoldable pub headerOf : List ℕ → Header
 headerOf b =
     record {

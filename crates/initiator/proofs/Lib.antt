@@ -1,2 +1,5 @@
 pub mod Told
 pub mod Views
+pub mod WriteHeld
+pub mod WriteTold
+pub mod WriteViews

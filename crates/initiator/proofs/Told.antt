@@ -36,7 +36,7 @@ use Rattle.initiator.specs.declared.types.ReadArrived.{ReadArrived}
 use Rattle.initiator.specs.declared.types.ReadAnswer.{ReadAnswer}
 
 -- 6, 7 and 8 as the code tests them, by its callees' results
-pub screen-is : (t : Transfer) (h : Header) {role : Role} {taken : Bool} {e x : Entry} → role ≡ roleOf (h .kind) → taken ≡ takesRead role → e ≡ screenOf t h taken → e ≡ x → screenOf t h (takesRead (roleOf (h .kind))) ≡ x
+pub screen-is : (t : Transfer) (h : Header) {role asked : Role} {taken : Bool} {e x : Entry} → role ≡ asked → taken ≡ takesRead role → e ≡ screenOf t h taken → e ≡ x → screenOf t h (takesRead asked) ≡ x
 screen-is t h p q s e = ap (screenOf t h) (ap takesRead (sym p) ∙ sym q) ∙ sym s ∙ e
 
 -- the IU of a frame that the reader takes is inside the frame

@@ -39,11 +39,11 @@ use Rattle.initiator.specs.declared.types.ReadAnswer.the-variants.{Arriv
 use Rattle.initiator.proofs.Told.{framed-open, read-open, not-expected-fails, answeredOf, responds}
 
 -- two answers that differ
-differ : {A : Type 0} → _≡_ {A = ℕ} 0 1 → A
+pub differ : {A : Type 0} → _≡_ {A = ℕ} 0 1 → A
 differ e = absurd (omega arith)
 
 -- DATA that was written for this port reaches the receiving port as it was written
-open-entry : (ok ended : Bool) → ok ≡ true → ended ≡ false → entryOf ok ended ≡ Open
+pub open-entry : (ok ended : Bool) → ok ≡ true → ended ≡ false → entryOf ok ended ≡ Open
 unfolding entryOf pick
 open-entry ok ended e f = rw (e, f)
 
@@ -51,7 +51,7 @@ data-role : (kind : ℕ) → kind ≡ DATA → roleOf kind ≡ Role.Data
 unfolding roleOf pick
 data-role kind e = rw e
 
-passed : (t : Transfer) (h : Header) → h .dest ≡ t .local → h .source ≡ t .remote → h .tag ≡ t .tag → screenOf t h true ≡ Open
+pub passed : (t : Transfer) (h : Header) → h .dest ≡ t .local → h .source ≡ t .remote → h .tag ≡ t .tag → screenOf t h true ≡ Open
 unfolding screenOf pick
 passed t h d s g = rw (eq-eqb _ _ d, eq-eqb _ _ s, eq-eqb _ _ g)
 

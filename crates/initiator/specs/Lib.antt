@@ -1,2 +1,5 @@
 pub mod Role
 pub mod Read
+pub mod WriteRecord
+pub mod WriteSend
+pub mod WriteTake

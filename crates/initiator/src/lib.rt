@@ -1,6 +1,9 @@
-// The initiator port: what arrives at the host.
+// The initiator port: what arrives at the host, and what it sends in a write command.
 mod read;
 mod types;
+mod write_record;
+mod write_send;
+mod write_take;
 
 pub use read::nexus_lost;
 pub use read::read_frame_received;
@@ -9,3 +12,18 @@ pub use types::ReadAnswer;
 pub use types::ReadArrived;
 pub use types::ReadSetup;
 pub use types::Role;
+pub use types::Verdict;
+pub use types::WriteAnswer;
+pub use types::WriteArrived;
+pub use types::WriteSetup;
+pub use types::WriteStepped;
+pub use types::Writer;
+pub use write_record::set_up_write;
+pub use write_record::writer_holds;
+pub use write_send::write_ack_nak_timeout;
+pub use write_send::write_ack_received;
+pub use write_send::write_connection_lost;
+pub use write_send::write_nak_received;
+pub use write_send::write_next_frame;
+pub use write_send::write_nexus_lost;
+pub use write_take::write_frame_received;

@@ -30,7 +30,7 @@ use Rattle.link.proofs.Numbers.{few, j-most, retries-most}
 pub outcome : {X : Type 0} (x : Left X) {t : Told} {b : List ℕ} → x .told ≡ t → x .lent ≡ b → x ≡ record { left = x .left; told = t; lent = b }
 outcome x p q i = record { left = x .left; told = p i; lent = q i }
 
-over-front : (f d : List ℕ) → take (length f) (over f d) ≡ f
+pub over-front : (f d : List ℕ) → take (length f) (over f d) ≡ f
 unfolding over
 over-front f d = take-at f (drop (length f) d) (length f) refl
 

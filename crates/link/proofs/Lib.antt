@@ -13,5 +13,8 @@ pub mod Closing
 pub mod Resting
 pub mod Delivery
 pub mod ReadSimulates
+pub mod WriteSimulates
+pub mod Exchange
 pub mod Theorem
 pub mod Worked
+pub mod WorkedWrite

@@ -76,7 +76,7 @@ read-simulates =
       signal-refused = λ g x e. same-by (signalled g x .report) x (signalled g x .sender) (signalled-leaves g x) e;
       arrive-refused = λ y f b e. let v = was-refused (readOf y f (length b) .answer) e in refusal-same y f (length b) (v .0) (v .1) .0;
       lose-refused = λ y e. let v = was-refused (lossOf y .answer) e in loss-refusal-same y (v .0) (v .1) .0;
-      send-call-refused = λ c x e. noCall c;
+      send-call-refused = λ f x e. refl;
       receive-call-refused = λ c y e. noCall c;
     }
 

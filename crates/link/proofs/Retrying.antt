@@ -83,7 +83,7 @@ module _ {P : Ports} (S : Setting) (M : Simulates P (S .tptt)) (w : World P) (y 
               takes = ported .takes;
               send-for = ported .send-for;
               take-for = ported .take-for;
-              s-holds = retried-holds s (held s (ported .s-holds)) less (omega (arith, at, marked .balance-at));
+              s-holds = retried-holds s (held s (ported .s-holds)) less;
               s-open = ported .s-open;
               r-holds = ported .r-holds;
               r-open = ported .r-open;
@@ -93,7 +93,7 @@ module _ {P : Ports} (S : Setting) (M : Simulates P (S .tptt)) (w : World P) (y 
         marked =
             record {
               next-at = at;
-              balance-at = marked .balance-at;
+              balance-at = at;
               restart-in = marked .restart-in;
               all-in = λ i q. inside-mono (S .base) (S .end) (S .t .size) (sized S) i m (omega arith) (marked .restart-in);
               from-base = marked .from-base;

@@ -31,6 +31,7 @@ use Rattle.link.proofs.Flight.{Flight}
 use Rattle.link.proofs.Invariant.{Standing, Live}
 use Rattle.link.proofs.ReadSimulates.{read-simulates, read-sends, read-takes}
 use Rattle.link.proofs.Delivery.{delivers}
+use Rattle.link.proofs.Exchange.{write-delivers}
 
 -- what a set-up that is not refused says
 ready-sender : (t : Transfer) (s : Sender) → senderOf t ≡ Setup.Ready s → (limitsHold t ≡ true) × (startOf t ≡ s)
@@ -117,3 +118,4 @@ delivery P b w (Starts.read t u s r d e hs hr a on dl bl) =
     let y = ready-receiver u r hr in
     subst₂ (λ (v : Sender) (q : Receiver). Always (record { base = 0; end = t .count; size = t .size; limit = t .limit }) (fresh readPorts v q d e)) (x .1) (y .1)
     (delivers (setting t u d e (x .0) (y .0) a on dl bl) read-simulates _ (refl, refl) (inl (begins t u d e (x .0) (y .0) a on dl bl)))
+delivery P b w (Starts.write x y out d e n k hx ox zx a on dl el hands takes acks) = write-delivers x y out d e n k hx ox zx a on dl el hands takes acks

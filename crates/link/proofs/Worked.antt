@@ -29,7 +29,7 @@ use Rattle.link.specs.Worked.{target, host, tenStart, tenBurst, tenEvent
 use Rattle.link.proofs.Theorem.{delivery}
 
 -- a report was given
-given : {q : Report} {n : ℕ} → (q ≡ Report.delivered n) ⊎ ((f : Failure) × (q ≡ Report.failed f n)) → q ≡ Report.none → ⊥
+pub given : {q : Report} {n : ℕ} → (q ≡ Report.delivered n) ⊎ ((f : Failure) × (q ≡ Report.failed f n)) → q ≡ Report.none → ⊥
 given (inl d) e = let z : _≡_ {A = ℕ} 0 1 = cc in omega arith
 given (inr (f, d)) e = let z : _≡_ {A = ℕ} 0 1 = cc in omega arith
 
@@ -46,11 +46,11 @@ six-starts = Starts.read (target 6 2 1) (host 6 2 1) _ _ _ _ refl refl (alike 6 
 
 -- an event's part of `Allowed`, then those of the rest
 infixr 40 _then_
-_then_ : {A B : Type 0} → A → B → A × B
+pub _then_ : {A B : Type 0} → A → B → A × B
 a then b = (a, b)
 
 -- all that a run computes with
-computed : Unit {0}
+unfoldable pub computed : Unit {0}
 unfolding pick entryOf limits limitsHold flagByte flagsOf headerBytes dataBytes encode over placed headerOf decode tests holdsOf lentOf waitsOf frameOf sentOf dueOf nextOf transmit.headerOf retryOf advanceOf settleOf answerableOf screenOf receiver.tests receiver.holdsOf misplaced outOfStep verdictOf arrivalOf arrival.lentOf roleOf framedOf initiator.readOf cutFault timeoutFault
 computed = tt
 

@@ -1,10 +1,11 @@
 -- Demand 3, the delivery claim: the starts, and one record of what holds after every list of link events from there.
--- Events, faults and the lists that are allowed are in specs/World; the ports' steps are those that their contracts cite (specs/Reading).
+-- Events, faults and the lists that are allowed are in specs/World; the ports' steps are those that their contracts cite (specs/Reading, specs/Writing).
 use Prim.Native.Nat.{ℕ, _+_, _-_, _*_, _/_, _^_, _≤_, _<_}
 use mathlib.Core.List.{List, []}
+use mathlib.Core.Bool.{true, false}
 use mathlib.Core.Logic.{_⊎_}
 use mathlib.Core.Path.{_≡_}
-use lib.ListN.{length, getD}
+use lib.ListN.{length, getD, take}
 use Rattle.status.specs.Number.{failureNumber}
 use Rattle.status.specs.declared.Failure.{Failure}
 use Rattle.transfer.specs.declared.Transfer.{Transfer}
@@ -14,8 +15,17 @@ use Rattle.sender.specs.declared.types.Setup.{Setup}
 use Rattle.receiver.specs.declared.types.Receiver.{Receiver}
 use Rattle.initiator.specs.Read.{setUpOf}
 use Rattle.initiator.specs.declared.types.ReadSetup.{ReadSetup}
+use Rattle.initiator.specs.WriteRecord.{holdsOf}
+use Rattle.initiator.specs.WriteTake.{arrivedOf}
+use Rattle.initiator.specs.declared.types.Writer.{Writer}
+use Rattle.initiator.specs.declared.types.WriteAnswer.{WriteAnswer}
+use Rattle.target.specs.Transmit as target
+use Rattle.target.specs.Answer.{ackOf}
+use Rattle.target.specs.declared.types.Target.{Target}
+use Rattle.target.specs.declared.types.Report.{Report as Report′}
 use Rattle.link.specs.Ports.{Told, Ports}
 use Rattle.link.specs.Reading.{readPorts}
+use Rattle.link.specs.Writing.{writePorts}
 use Rattle.link.specs.World.{World, Report, Event, run, Allowed}
 
 -- the burst that is delivered: its offsets, the data size, the retry limit
@@ -86,12 +96,33 @@ pub record Alike (t u : Transfer) : Type 0 where
   pub tag : t .tag ≡ u .tag
   pub tag-bits : t .tag < 2 ^ 16
 
+-- the n bytes that the target put at the front of the output buffer
+abbrev pub xferRdyOf : Target → List ℕ → ℕ → List ℕ
+xferRdyOf y out n = take n (target.after (target.nextOf y out .report) (target.frameOf y) out)
+
 -- "Take one read, .. retries on, both ports set up alike, none of its frames handed out yet"; any buffers of the byte count's length
 pub data Starts : (P : Ports) → Burst → World P → Type 1 where
   read : (t u : Transfer) (s : Sender) (r : Receiver) (d b : List ℕ) →
       senderOf t ≡ Setup.Ready s → setUpOf u ≡ ReadSetup.Ready r → Alike t u → 1 ≤ t .limit →
       length d ≡ t .count → length b ≡ t .count →
       Starts readPorts (record { base = 0; end = t .count; size = t .size; limit = t .limit }) (fresh readPorts s r d b)
+  -- "or one write burst whose XFER_RDY had its ACK at the target before the first DATA frame": any well-formed records x and y that are set up alike, at any
+  -- burst; the target hands out its XFER_RDY, the initiator takes those bytes with nothing unanswered, the target gets the ACK
+  write : (x : Writer) (y : Target) (out d b : List ℕ) (n k : ℕ) →
+      holdsOf x ≡ true → x .sender .ended ≡ false → x .sender .unanswered ≡ 0 →
+      Alike (x .sender .transfer) (y .receiver .transfer) → 1 ≤ x .sender .transfer .limit →
+      length d ≡ x .sender .transfer .count → length b ≡ x .sender .transfer .count →
+      target.nextOf y out .report ≡ Report′.Frame n →
+      arrivedOf x (xferRdyOf y out n) .answer ≡ WriteAnswer.XferRdy k →
+      ackOf (target.nextOf y out .target) .report ≡ Report′.Acknowledged →
+      Starts writePorts
+      (record {
+        base = target.nextOf y out .target .receiver .base;
+        end = target.nextOf y out .target .receiver .end;
+        size = x .sender .transfer .size;
+        limit = x .sender .transfer .limit;
+      })
+      (fresh writePorts (arrivedOf x (xferRdyOf y out n) .writer) (ackOf (target.nextOf y out .target) .target) d b)
 
 -- from a start, after every allowed list of events
 abbrev pub Always : {P : Ports} → Burst → World P → Type 0

@@ -9,7 +9,7 @@ use Rattle.transfer.specs.declared.Transfer.{Transfer}
 use Rattle.frame.specs.Format.{field}
 use Rattle.sender.specs.Record.{startOf}
 use Rattle.initiator.specs.Read as initiator
-use Rattle.link.specs.Ports.{Signal}
+use Rattle.link.specs.Ports.{Signal, Ports}
 use Rattle.link.specs.World.{World, Report, Event, ask, arrives, damaged, frame-lost, answered, answer-lost, timeout, cut, other, asking, signals, arriving, run, Allowed}
 use Rattle.link.specs.Claim.{Starts, Burst, Concluded, Delivers, fresh}
 use Rattle.link.specs.Reading.{readPorts}
@@ -20,9 +20,9 @@ pointers [] = []
 pointers (f ∷ fs) = (field f 20 4, getD f 10 0) ∷ pointers fs
 
 -- the list of events es from a start: it is allowed, what stands at its end, and the claim there
-pub record Worked (b : Burst) (start : World readPorts) (es : List (Event readPorts)) (report : Report) (received : List ℕ) (faults count : ℕ) (handed : List (ℕ × ℕ)) : Type 1 where
+pub record Worked {P : Ports} (b : Burst) (start : World P) (es : List (Event P)) (report : Report) (received : List ℕ) (faults count : ℕ) (handed : List (ℕ × ℕ)) : Type 1 where
   -- the claim's premises
-  pub starts : Starts readPorts b start
+  pub starts : Starts P b start
   pub allowed : Allowed start es
   -- what the sending port has reported, the receiving port's buffer, the faults, the history of frames and its length
   pub reports : run start es .report ≡ report

@@ -16,7 +16,7 @@ use Rattle.receiver.specs.Arrival.{lentOf, verdictOf, takenOf, arrivalOf
 use Rattle.receiver.specs.declared.types.Receiver.{Receiver}
 use Rattle.receiver.specs.declared.types.Arrival.the-variants.{Received, Stored}
 use Rattle.receiver.specs.declared.types.Verdict.{Verdict}
-use Rattle.receiver.specs.declared.types.Verdict.the-variants.{Discard, Wait, Fail, Store}
+use Rattle.receiver.specs.declared.types.Verdict.the-variants.{Discard, Skip, Fail, Store}
 use Rattle.receiver.proofs.Judged.{room}
 
 -- stored, the burst filled with it or not
@@ -37,6 +37,6 @@ after-length r offset cdp iu d = go (entryOf (lentOf r (length d)) (r .ended)) (
     go : (e : Entry) (v : Verdict) → e ≡ entryOf (lentOf r (length d)) (r .ended) → verdictOf r offset cdp (length iu) ≡ v → length (after (unless e r (takenOf v r offset (length iu)) .arrival) offset iu d) ≡ length d
     go (Closed w) v p q = refl
     go Open Discard p q = refl
-    go Open Wait p q = refl
+    go Open Skip p q = refl
     go Open (Fail w) p q = refl
     go Open Store p q = rw put-down (placed-length d offset iu (room r offset cdp (length iu) (length d) (opened _ _ p .0) q .0))

@@ -11,7 +11,7 @@ use Rattle.status.specs.declared.Failure.the-variants.{DataOffsetError, TooMuch
 use Rattle.receiver.specs.Arrival.{lentOf, misplaced as misplacedOf, outOfStep, verdictOf}
 use Rattle.receiver.specs.declared.types.Receiver.{Receiver}
 use Rattle.receiver.specs.declared.types.Verdict.{Verdict}
-use Rattle.receiver.specs.declared.types.Verdict.the-variants.{Discard, Wait, Fail, Store}
+use Rattle.receiver.specs.declared.types.Verdict.the-variants.{Discard, Skip, Fail, Store}
 use Rattle.receiver.proofs.Held.{held, lent}
 
 -- number 20
@@ -45,7 +45,7 @@ pub data Judged (r : Receiver) (offset : ℕ) (cdp : Bool) (n : ℕ) : Verdict �
   misplaced : (r .filled ≡ r .end → ⊥) → Misplaced r offset cdp → Judged r offset cdp n (Fail DataOffsetError)
   long : (r .filled ≡ r .end → ⊥) → r .end < offset + n → Judged r offset cdp n (Fail TooMuchData)
   empty : (r .filled ≡ r .end → ⊥) → n ≡ 0 → Judged r offset cdp n (Fail IncorrectDataLength)
-  skipped : Inside r offset n → OutOfStep r offset cdp → Judged r offset cdp n Wait
+  skipped : Inside r offset n → OutOfStep r offset cdp → Judged r offset cdp n Skip
   stored : Inside r offset n → InStep r offset cdp → Judged r offset cdp n Store
 
 -- number 20 does not apply
@@ -92,11 +92,11 @@ module _ (r : Receiver) (offset : ℕ) (cdp : Bool) where
   unfolding verdictOf pick
   judged n = go (eqb (r .filled) (r .end)) (ltb (r .end) (offset + n)) (eqb n 0) refl placing refl refl stepping
     where
-      last : {t : Bool} → Inside r offset n → Stepping r offset cdp t → Judged r offset cdp n (pick t Wait Store)
+      last : {t : Bool} → Inside r offset n → Stepping r offset cdp t → Judged r offset cdp n (pick t Skip Store)
       last i (out s) = skipped i s
       last i (inside s) = stored i s
 
-      go : (a b c : Bool) {d e : Bool} → eqb (r .filled) (r .end) ≡ a → Placing r offset cdp d → ltb (r .end) (offset + n) ≡ b → eqb n 0 ≡ c → (Placed r offset cdp → Stepping r offset cdp e) → Judged r offset cdp n (pick a Discard (pick d (Fail DataOffsetError) (pick b (Fail TooMuchData) (pick c (Fail IncorrectDataLength) (pick e Wait Store)))))
+      go : (a b c : Bool) {d e : Bool} → eqb (r .filled) (r .end) ≡ a → Placing r offset cdp d → ltb (r .end) (offset + n) ≡ b → eqb n 0 ≡ c → (Placed r offset cdp → Stepping r offset cdp e) → Judged r offset cdp n (pick a Discard (pick d (Fail DataOffsetError) (pick b (Fail TooMuchData) (pick c (Fail IncorrectDataLength) (pick e Skip Store)))))
       go true b c p w q s f = full (eqb-true _ _ p)
       go false b c p (wrong m) q s f = misplaced (eqb-false _ _ p) m
       go false true c p (right w) q s f = long (eqb-false _ _ p) (ltb-true _ _ q)

@@ -22,7 +22,7 @@ use Rattle.receiver.specs.declared.types.Received.{Received as Result}
 use Rattle.receiver.specs.declared.types.Arrival.{Arrival}
 use Rattle.receiver.specs.declared.types.Arrival.the-variants.{Refused, Failed, Discarded, Stored, Received}
 use Rattle.receiver.specs.declared.types.Verdict.{Verdict}
-use Rattle.receiver.specs.declared.types.Verdict.the-variants.{Discard, Wait, Fail, Store}
+use Rattle.receiver.specs.declared.types.Verdict.the-variants.{Discard, Skip, Fail, Store}
 use Rattle.receiver.proofs.Held.{Held, held, holds-again, limits-again, lent, lent-again}
 use Rattle.receiver.proofs.Judged.{Misplaced, Inside, OutOfStep, InStep, Judged, judged}
 
@@ -110,7 +110,7 @@ module _ (r : Receiver) (offset : ℕ) (cdp : Bool) (n : ℕ) where
       go : (e : Entry) (v : Verdict) → unless e r (takenOf v r offset n) .arrival ≡ Refused why → unless e r (takenOf v r offset n) .receiver ≡ r
       go (Closed w) v q = refl
       go Open Discard q = refl
-      go Open Wait q = differ (cc)
+      go Open Skip q = differ (cc)
       go Open (Fail w) q = differ (cc)
       go Open Store q = ⊎-elim (λ h. differ (cc)) (λ h. differ (cc)) (done (eqb (max (r .filled) (offset + n)) (r .end)))
 
@@ -124,7 +124,7 @@ module _ (r : Receiver) (offset : ℕ) (cdp : Bool) (n : ℕ) where
       go : (e : Entry) (v : Verdict) → unless e r (takenOf v r offset n) .arrival ≡ Failed why → unless e r (takenOf v r offset n) ≡ failedOf r why
       go (Closed w) v q = differ (cc)
       go Open Discard q = differ (cc)
-      go Open Wait q = differ (cc)
+      go Open Skip q = differ (cc)
       go Open (Fail w) q = ap (failedOf r) (cc)
       go Open Store q = ⊎-elim (λ h. differ (cc)) (λ h. differ (cc)) (done (eqb (max (r .filled) (offset + n)) (r .end)))
 
@@ -152,7 +152,7 @@ module _ (r : Receiver) (offset : ℕ) (cdp : Bool) (n : ℕ) where
       go : (e : Entry) (v : Verdict) → unless e r (takenOf v r offset n) .receiver .transfer ≡ r .transfer
       go (Closed w) v = refl
       go Open Discard = refl
-      go Open Wait = refl
+      go Open Skip = refl
       go Open (Fail w) = refl
       go Open Store = refl
 

@@ -14,7 +14,7 @@ use Rattle.receiver.specs.declared.types.Received.{Received as Result}
 use Rattle.receiver.specs.declared.types.Arrival.{Arrival}
 use Rattle.receiver.specs.declared.types.Arrival.the-variants.{Refused, Failed, Discarded, Stored, Received}
 use Rattle.receiver.specs.declared.types.Verdict.{Verdict}
-use Rattle.receiver.specs.declared.types.Verdict.the-variants.{Discard, Wait, Fail, Store}
+use Rattle.receiver.specs.declared.types.Verdict.the-variants.{Discard, Skip, Fail, Store}
 
 -- 1 as in `holdsOf`, and "the data buffer has another length" than the byte count
 unfoldable pub lentOf : Receiver → ℕ → Bool
@@ -37,7 +37,7 @@ verdictOf r offset cdp n =
     (pick (misplaced r offset cdp) (Fail DataOffsetError)
     (pick (ltb (r .end) (offset + n)) (Fail TooMuchData)
     (pick (eqb n 0) (Fail IncorrectDataLength)
-    (pick (outOfStep r offset cdp) Wait Store))))
+    (pick (outOfStep r offset cdp) Skip Store))))
 
 -- "is discarded and waiting starts"
 abbrev pub waitingOf : Receiver → Receiver
@@ -71,7 +71,7 @@ storedOf r offset n =
 
 abbrev pub takenOf : Verdict → Receiver → ℕ → ℕ → Result
 takenOf Discard r offset n = record { receiver = r; arrival = Discarded }
-takenOf Wait r offset n = record { receiver = waitingOf r; arrival = Discarded }
+takenOf Skip r offset n = record { receiver = waitingOf r; arrival = Discarded }
 takenOf (Fail why) r offset n = failedOf r why
 takenOf Store r offset n = storedOf r offset n
 

@@ -1,4 +1,4 @@
--- The receiving port's record: the tests of numbers 1 and 2, failure, nexus loss.
+-- The receiving port's record: the tests of number 1, refusal, failure, nexus loss.
 use Prim.Native.Nat.{ℕ}
 use mathlib.Core.List.{List, [], _∷_}
 use mathlib.Core.Bool.{Bool, true}

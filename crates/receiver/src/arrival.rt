@@ -60,7 +60,7 @@ fn judge(r: Receiver, offset: u32, cdp: bool, n: usize) -> Verdict
         return Verdict::Fail(Failure::IncorrectDataLength);
     }
     if is_out_of_step(r, offset, cdp) {
-        return Verdict::Wait;
+        return Verdict::Skip;
     }
     Verdict::Store
 }
@@ -115,7 +115,7 @@ fn take(r: Receiver, offset: u32, cdp: bool, iu: &[u8], buffer: &mut [u8]) -> Re
             receiver: r,
             arrival: Arrival::Discarded,
         },
-        Verdict::Wait => {
+        Verdict::Skip => {
             let mut w = r;
             w.waiting = true;
             Received {

@@ -37,7 +37,7 @@ pub enum Verdict {
     // the burst is filled: discarded, and nothing changes
     Discard,
     // discarded, and waiting for CHANGING DATA POINTER starts
-    Wait,
+    Skip,
     Fail(Failure),
     Store,
 }

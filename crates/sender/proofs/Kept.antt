@@ -30,9 +30,10 @@ module _ (s : Sender) (h : Held s) where
   pub failed-holds : (c : Failure) → holdsOf (failedOf s c .sender) ≡ true
   failed-holds c = let m = marks in holds-again (failedOf s c .sender) limits-hold (omega arith)
 
-  pub retried-holds : s .retries < s .limit → s .balance ≤ restartOf s → holdsOf (retriedOf s .sender) ≡ true
-  retried-holds r p =
+  pub retried-holds : s .retries < s .limit → holdsOf (retriedOf s .sender) ≡ true
+  retried-holds r =
       let m = marks in
+      let p : s .base ≤ restartOf s = pick-of (λ (x : ℕ). s .base ≤ x) (s .transfer .write) (s .base) (s .balance) (omega arith) (omega arith) in
       let q : restartOf s ≤ s .end = pick-of (λ (x : ℕ). x ≤ s .end) (s .transfer .write) (s .base) (s .balance) (omega arith) (omega arith) in
       holds-again (retriedOf s .sender) limits-hold (omega arith)
 

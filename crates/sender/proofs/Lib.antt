@@ -6,3 +6,4 @@ pub mod Next
 pub mod Views
 pub mod Ended
 pub mod Kept
+pub mod Shape

@@ -61,7 +61,7 @@ failedOf s cause = record { sender = endedOf s; report = Failed cause (s .frames
 abbrev pub restartOf : Sender → ℕ
 restartOf s = pick (s .transfer .write) (s .base) (s .balance)
 
--- the retry "clears the count" and "also clears a pending NAK"; the next frame has CDP one
+-- the retry "clears the count" and "also clears a pending NAK"; the next frame has CDP one; the balance point is where it goes on
 abbrev pub retriedOf : Sender → Stepped
 retriedOf s =
     record {
@@ -73,7 +73,7 @@ retriedOf s =
             base = s .base;
             end = s .end;
             next = restartOf s;
-            balance = s .balance;
+            balance = restartOf s;
             unanswered = 0;
             nak = false;
             cdp = true;

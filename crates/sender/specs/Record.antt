@@ -1,4 +1,4 @@
--- The sending port's record: the tests of numbers 1 and 2, and the set-up for a read.
+-- The sending port's record: the tests of number 1, refusal, and the set-up for a read.
 use Prim.Native.Nat.{ℕ, _^_}
 use mathlib.Core.List.{List, [], _∷_}
 use mathlib.Core.Bool.{Bool, true, false, not}

@@ -48,6 +48,7 @@ fn retry(mut s: Sender, cause: Failure) -> Stepped
     if s.retries < s.limit {
         let next = restart(s);
         s.next = next;
+        s.balance = next;
         s.cdp = true;
         s.retries = s.retries + 1;
         s.unanswered = 0;

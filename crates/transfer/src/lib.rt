@@ -67,7 +67,7 @@ impl Transfer {
             & (self.remote <= Transfer::ADDRESS_MOST)
     }
 
-    // A transfer within the limits, else 1. A read is one burst: its burst is the byte count.
+    // A transfer within the limits, else 1. A read is one burst and does not use `burst`, which keeps its limits all the same.
     pub fn new(
         write: bool,
         count: u32,

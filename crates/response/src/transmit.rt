@@ -1,0 +1,83 @@
+// The RESPONSE asked for.
+ghost use mathlib.Core.Path.{_≡_};
+ghost use mathlib.Core.Bool.{true};
+ghost use lib.ListN.{length};
+ghost use Rattle.response.specs.Transmit.{lentOf, headerOf, frameOf, handsOf, nextOf, after, sentOf};
+use crate::record;
+use crate::types::Report;
+use crate::types::Responder;
+use crate::types::Stepped;
+use frame::Flags;
+use frame::Header;
+use frame::Written;
+use status::Entry;
+
+// Number 1 does not apply, the IU's length included.
+fn lent(x: Responder, n: usize) -> bool
+    ensures { λ r. ⌜ r ≡ lentOf x n ⌝ }
+{
+    let holds = record::holds(x);
+    let len = x.len as usize;
+    holds & (n == len)
+}
+
+// RETRANSMIT is one where it is sent again.
+fn header(x: Responder) -> Header
+    ensures { λ r. ⌜ r ≡ headerOf x ⌝ }
+{
+    let t = x.transfer;
+    Header {
+        kind: 0x07,
+        dest: t.remote,
+        source: t.local,
+        flags: Flags {
+            retry: false,
+            retransmit: 0 < x.retries,
+            cdp: false,
+        },
+        tag: t.tag,
+        tptt: 0,
+        offset: 0,
+    }
+}
+
+fn sent(mut x: Responder) -> Responder
+    ensures { λ r. ⌜ r ≡ sentOf x ⌝ }
+{
+    x.unanswered = true;
+    x
+}
+
+// The RESPONSE is due: it goes out, or the output buffer is too short.
+fn transmit(x: Responder, iu: &[u8], out: &mut [u8]) -> Stepped
+    requires { ⌜ lentOf x (length (now iu)) ≡ true ⌝ }
+    ensures { λ r. ⌜ (r ≡ handsOf x (now (iu .entry)) (now (out .entry))) × (now (out .exit) ≡ after (handsOf x (now (iu .entry)) (now (out .entry)) .report) (frameOf x (now (iu .entry))) (now (out .entry))) ⌝ }
+{
+    let written = frame::write(header(x), iu, out);
+    match written {
+        Written::Frame(length) => Stepped {
+            responder: sent(x),
+            report: Report::Frame(length),
+        },
+        Written::Refused(r) => record::refused(x, r),
+    }
+}
+
+pub fn next_frame(x: Responder, iu: &[u8], out: &mut [u8]) -> Stepped
+    ensures { λ r. ⌜ (r ≡ nextOf x (now (iu .entry)) (now (out .entry))) × (now (out .exit) ≡ after (nextOf x (now (iu .entry)) (now (out .entry)) .report) (frameOf x (now (iu .entry))) (now (out .entry))) ⌝ }
+{
+    let ok = lent(x, iu.len());
+    match status::admit(ok, x.ended) {
+        Entry::Closed(why) => record::refused(x, why),
+        Entry::Open => {
+            if x.unanswered {
+                Stepped {
+                    responder: x,
+                    report: Report::Wait,
+                }
+            } else {
+                transmit(x, iu, out)
+            }
+        }
+    }
+}

@@ -1,0 +1,6 @@
+pub mod Tag
+pub mod Record
+pub mod Transmit
+pub mod Answer
+pub mod Arrival
+pub mod Read

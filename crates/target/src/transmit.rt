@@ -1,0 +1,150 @@
+// An XFER_RDY asked for.
+ghost use mathlib.Core.Path.{_≡_};
+ghost use mathlib.Core.Bool.{true};
+ghost use Prim.Native.Nat.{_≤_};
+ghost use Rattle.target.specs.Record.{holdsOf};
+ghost use Rattle.target.specs.Transmit.{dueOf, burstEnd, nextBurst, burstOf, issuedOf, headerOf, iuOf, frameOf, handsOf, nextOf, after};
+use crate::record;
+use crate::tag;
+use crate::types::Report;
+use crate::types::Stepped;
+use crate::types::Target;
+use frame::Flags;
+use frame::Header;
+use frame::Written;
+use frame::XferRdy;
+use status::Entry;
+
+// One is to be sent again, or the previous burst is filled and the byte count is not reached.
+fn is_due(x: Target) -> bool
+    ensures { λ r. ⌜ r ≡ dueOf x ⌝ }
+{
+    let r = x.receiver;
+    let t = r.transfer;
+    !x.unanswered & (x.again | ((r.filled == r.end) & (r.end < t.count)))
+}
+
+// The lesser of the burst size and what remains, from the end of the previous burst.
+fn burst_end(x: Target) -> u32
+    requires { ⌜ holdsOf x ≡ true ⌝ }
+    ensures { λ r. ⌜ r ≡ burstEnd x ⌝ }
+{
+    let r = x.receiver;
+    let t = r.transfer;
+    let left = t.count - r.end;
+    if t.burst <= left {
+        r.end + t.burst
+    } else {
+        t.count
+    }
+}
+
+// The next burst, from the end of the previous one.
+fn next_burst(mut x: Target) -> Target
+    requires { ⌜ holdsOf x ≡ true ⌝ }
+    ensures { λ r. ⌜ r ≡ nextBurst x ⌝ }
+{
+    let end = burst_end(x);
+    let mut r = x.receiver;
+    r.base = r.end;
+    r.expected = r.end;
+    r.filled = r.end;
+    r.end = end;
+    r.waiting = false;
+    x.receiver = r;
+    x.retries = 0;
+    x
+}
+
+// The burst that the XFER_RDY is for: the same one again, or the next.
+fn burst(x: Target) -> Target
+    requires { ⌜ holdsOf x ≡ true ⌝ }
+    ensures { λ r. ⌜ r ≡ burstOf x ⌝ }
+{
+    if x.again { x } else { next_burst(x) }
+}
+
+// The record once the XFER_RDY is handed out, under a new tag.
+fn issue(x: Target) -> Target
+    requires { ⌜ holdsOf x ≡ true ⌝ }
+    ensures { λ r. ⌜ r ≡ issuedOf x ⌝ }
+{
+    let tptt = tag::new_tag(x.stored, x.under, x.since);
+    let mut y = burst(x);
+    y.issued = true;
+    y.tptt = tptt;
+    y.unanswered = true;
+    y.again = false;
+    y.ready = false;
+    y.since = x.since + 1;
+    y
+}
+
+// RETRANSMIT is one where it is sent again; `y` is the record that hands it out.
+fn header(y: Target, again: bool) -> Header
+    ensures { λ r. ⌜ r ≡ headerOf y again ⌝ }
+{
+    let r = y.receiver;
+    let t = r.transfer;
+    Header {
+        kind: 0x05,
+        dest: t.remote,
+        source: t.local,
+        flags: Flags {
+            retry: 0 < t.limit,
+            retransmit: again,
+            cdp: false,
+        },
+        tag: t.tag,
+        tptt: y.tptt,
+        offset: 0,
+    }
+}
+
+fn iu(y: Target) -> [u8; 12]
+    requires { ⌜ y .receiver .base ≤ y .receiver .end ⌝ }
+    ensures { λ r. ⌜ r ≡ iuOf y ⌝ }
+{
+    let r = y.receiver;
+    frame::write_xfer_rdy(XferRdy {
+        offset: r.base,
+        len: r.end - r.base,
+    })
+}
+
+// An XFER_RDY is due: it goes out, or the output buffer is too short.
+fn transmit(x: Target, out: &mut [u8]) -> Stepped
+    requires { ⌜ holdsOf x ≡ true ⌝ }
+    ensures { λ r. ⌜ (r ≡ handsOf x (now (out .entry))) × (now (out .exit) ≡ after (handsOf x (now (out .entry)) .report) (frameOf x) (now (out .entry))) ⌝ }
+{
+    let y = issue(x);
+    let bytes = iu(y);
+    let written = frame::write(header(y, x.again), &bytes, out);
+    match written {
+        Written::Frame(length) => Stepped {
+            target: y,
+            report: Report::Frame(length),
+        },
+        Written::Refused(r) => record::refused(x, r),
+    }
+}
+
+pub fn next_frame(x: Target, out: &mut [u8]) -> Stepped
+    ensures { λ r. ⌜ (r ≡ nextOf x (now (out .entry))) × (now (out .exit) ≡ after (nextOf x (now (out .entry)) .report) (frameOf x) (now (out .entry))) ⌝ }
+{
+    let ok = record::holds(x);
+    let ended = x.receiver.ended;
+    match status::admit(ok, ended) {
+        Entry::Closed(why) => record::refused(x, why),
+        Entry::Open => {
+            if is_due(x) {
+                transmit(x, out)
+            } else {
+                Stepped {
+                    target: x,
+                    report: Report::Wait,
+                }
+            }
+        }
+    }
+}
