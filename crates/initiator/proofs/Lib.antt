@@ -3,3 +3,4 @@ pub mod Views
 pub mod WriteHeld
 pub mod WriteTold
 pub mod WriteViews
+pub mod WriteCounts
