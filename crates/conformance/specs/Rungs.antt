@@ -1,117 +1,107 @@
 -- "The starred rungs form one checked table of the definitions with a single claim": `Holds table`, proved in proofs/Rungs.antt.
 use Prim.Native.Nat.{ℕ}
-use mathlib.Core.List.{List, [], _∷_}
-use mathlib.Core.Bool.{Bool, true, false}
+use mathlib.Core.List.{List, [], _∷_, _++_}
+use mathlib.Core.Bool.{true, false}
 use mathlib.Core.Path.{_≡_}
 use lib.ListN.{replicate}
+use Rattle.status.specs.Pick.{_with_}
+use Rattle.status.specs.Answer.{Word, Said, Left, _saying_}
+use Rattle.status.specs.Outcome.{Outcome}
 use Rattle.transfer.specs.Limits.{madeOf}
-use Rattle.sender.specs.Record.{readOf}
+use Rattle.transfer.specs.declared.Transfer.{Transfer}
+use Rattle.frame.specs.Write.{handing}
+use Rattle.frame.specs.Reserved.{bytesAt}
+use Rattle.sender.specs.Record.{setUpReadOf}
+use Rattle.sender.specs.Transmit.{frameOf, nextOf}
+use Rattle.sender.specs.Answer.{ackOf, nakOf, timeoutOf}
+use Rattle.sender.specs.declared.types.Sender.{Sender}
+use Rattle.receiver.specs.Record as receiver
+use Rattle.receiver.specs.Fields.{expected≔, filled≔, waiting≔}
+use Rattle.receiver.specs.DataFrame.{arrivalOf, storing}
 use Rattle.receiver.specs.declared.types.Receiver.{Receiver}
-use Rattle.initiator.specs.Read.{setUpOf}
-use Rattle.conformance.specs.Said.{Said, number, taken, wait, frame, bytes, stored, target, host, made, setUp, readSetUp, begins, opens, ask, ack, nak, timeout, calls, says, handed, arrives, dataFrame, reads}
 
--- a rung: what the definitions give, and what the paper says
-pub record Row : Type 0 where
-  pub given : List Said
-  pub paper : List Said
+-- a row: what the definitions give, and what the paper says
+pub record Row : Type 1 where
+  pub Of : Type 0
+  pub given : Of
+  pub paper : Of
+
+infix 1 _is_
+abbrev pub _is_ : {A : Type 0} → A → A → Row
+_is_ {A} x y = record { Of = A; given = x; paper = y }
 
 -- the claim: in every row the two are the same
 abbrev pub Holds : List Row → Type 0
 Holds [] = Unit {0}
 Holds (r ∷ rs) = (r .given ≡ r .paper) × Holds rs
 
--- R1 "Read DATA, hashes 123456h, ABCDEFh, tag 0012h, offset 4, four bytes: header 01 12 34 56 00 AB CD EF 00 00 00 00 00 00 00 00 00 12 00 00 00 00 00 04":
--- of eight bytes the second frame, 24 and four bytes long
-unfoldable pub R1 : Row
-R1 =
-    record {
-      given = begins (readOf (target 8 1)) λ s. let n = calls s (ask ∷ []) in says n ask ∷ handed n 0 24 ∷ [];
-      paper =
-          frame 28 ∷
-          bytes
-          (0x01 ∷ 0x12 ∷ 0x34 ∷ 0x56 ∷ 0x00 ∷ 0xab ∷ 0xcd ∷ 0xef ∷
-          0x00 ∷ 0x00 ∷ 0x00 ∷ 0x00 ∷ 0x00 ∷ 0x00 ∷ 0x00 ∷ 0x00 ∷
-          0x00 ∷ 0x12 ∷ 0x00 ∷ 0x00 ∷ 0x00 ∷ 0x00 ∷ 0x00 ∷ 0x04 ∷ []) ∷ [];
-    }
+-- R1's read: hashes 123456h and ABCDEFh, tag 0012h; four bytes per frame, at most four unanswered, retry limit 1
+abbrev pub read : ℕ → Transfer
+read count = record { write = false; count = count; size = 4; window = 4; limit = 1; burst = count; local = 0xabcdef; remote = 0x123456; tag = 0x0012 }
 
--- R2 "Two data bytes: 28-byte frame, byte 11 is 02h"
-unfoldable pub R2 : Row
-R2 =
-    record {
-      given = begins (readOf (target 2 1)) λ s. says s ask ∷ handed s 11 1 ∷ [];
-      paper = frame 28 ∷ bytes (0x02 ∷ []) ∷ [];
-    }
+-- what is said of a record that is set up
+abbrev pub of : {X A : Type 0} → Outcome X → (X → A) → Outcome A
+of (Outcome.value x) f = Outcome.value (f x)
+of (Outcome.number n) f = Outcome.number n
 
--- R3 "Count 0 and 16,777,217: 1. Count 1 and 16,777,216: taken": by the transfer record's constructor, and at the set-up of each port
-abbrev counted : ℕ → List Said → List Said
-counted n rest = made (madeOf (target n 1)) ∷ setUp (readOf (target n 1)) ∷ readSetUp (setUpOf (host n 1)) ∷ rest
+-- a frame asked for, with a data buffer and space for 28 bytes in which no byte is zero
+abbrev pub buffer : Sender → List ℕ
+buffer s = replicate (s .transfer .count) 0x5a
 
-unfoldable pub R3 : Row
-R3 =
-    record {
-      given = counted 0 (counted 16_777_217 (counted 1 (counted 16_777_216 [])));
-      paper =
-          number 1 ∷ number 1 ∷ number 1 ∷
-          number 1 ∷ number 1 ∷ number 1 ∷
-          taken 1 ∷ taken 1 ∷ taken 1 ∷
-          taken 16_777_216 ∷ taken 16_777_216 ∷ taken 16_777_216 ∷ [];
-    }
+abbrev pub space : List ℕ
+space = replicate 28 0xff
 
--- R4 "ACK at once: 4"
-unfoldable pub R4 : Row
-R4 = record { given = begins (readOf (target 16 1)) λ s. says s ack ∷ []; paper = number 4 ∷ [] }
+abbrev pub ask : Sender → Left Sender
+ask s = nextOf s (buffer s) space
 
--- R5 "Three sent, two ACKs, timeout: offset 0, CDP one": of four frames, so that a fourth could go out; the next frame's bytes 20 to 23 and 10
-unfoldable pub R5 : Row
-R5 =
-    record {
-      given = begins (readOf (target 16 1)) λ s. let n = calls s (ask ∷ ask ∷ ask ∷ ack ∷ ack ∷ timeout ∷ []) in says n ask ∷ handed n 20 4 ∷ handed n 10 1 ∷ [];
-      paper = frame 28 ∷ bytes (0 ∷ 0 ∷ 0 ∷ 0 ∷ []) ∷ bytes (0x01 ∷ []) ∷ [];
-    }
+-- n bytes of the output buffer then, from i
+abbrev pub out : ℕ → ℕ → Sender → List ℕ
+out i n s = bytesAt (handing (ask s .says) (frameOf s (buffer s)) space) i n
 
--- R6 "Three sent, NAK: wait; two ACKs: offset 0, CDP one": of four frames, with room in the window
-unfoldable pub R6 : Row
-R6 =
-    record {
-      given =
-          begins (readOf (target 16 1)) λ s.
-          let m = calls s (ask ∷ ask ∷ ask ∷ nak ∷ []) in
-          let n = calls m (ask ∷ ack ∷ ack ∷ []) in
-          says m ask ∷ says n ask ∷ handed n 20 4 ∷ handed n 10 1 ∷ [];
-      paper = wait ∷ frame 28 ∷ bytes (0 ∷ 0 ∷ 0 ∷ 0 ∷ []) ∷ bytes (0x01 ∷ []) ∷ [];
-    }
+-- the sending port of a read of n bytes after some calls
+abbrev pub after : List (Sender → Left Sender) → Sender → Sender
+after [] s = s
+after (k ∷ ks) s = after ks (k s .left)
 
--- R7 "Limit 1, one frame, timed out twice: 29"
-unfoldable pub R7 : Row
-R7 = record { given = begins (readOf (target 4 1)) λ s. says (calls s (ask ∷ timeout ∷ ask ∷ [])) timeout ∷ []; paper = number 29 ∷ [] }
+abbrev pub sends : {A : Type 0} → ℕ → List (Sender → Left Sender) → (Sender → A) → Outcome A
+sends n ks f = of (setUpReadOf (read n)) λ s. f (after ks s)
 
--- R8 "Ten bytes: offset 10 gives 20; offset 0 with eleven bytes 21": past 5 to 8, and as frames
-unfoldable pub R8 : Row
-R8 =
-    record {
-      given =
-          opens (setUpOf (host 10 1)) λ r.
-          let b = replicate 10 0xff in
-          arrives r 10 false (replicate 4 1) b ∷ arrives r 0 false (replicate 11 1) b ∷
-          reads r (dataFrame 10 false (replicate 4 1)) b ∷ reads r (dataFrame 0 false (replicate 11 1)) b ∷ [];
-      paper = number 20 ∷ number 21 ∷ number 20 ∷ number 21 ∷ [];
-    }
+-- a count at the constructor and at both set-ups
+abbrev pub counts : ℕ → List (Outcome Transfer)
+counts n = madeOf (read n) ∷ of (setUpReadOf (read n)) (λ s. s .transfer) ∷ of (receiver.setUpReadOf (read n)) (λ r. r .transfer) ∷ []
 
--- R9 "Ten bytes, filled 8, CDP one, offset 4, four bytes: stored": in a record that waits for CDP; past 5 to 8, and as a frame
-abbrev marked : ℕ → ℕ → Bool → Receiver
-marked expected filled waiting = record { transfer = host 10 1; base = 0; end = 10; expected = expected; filled = filled; waiting = waiting; ended = false }
-
-unfoldable pub R9 : Row
-R9 =
-    record {
-      given =
-          let b : List ℕ = 10 ∷ 11 ∷ 12 ∷ 13 ∷ 14 ∷ 15 ∷ 16 ∷ 17 ∷ 18 ∷ 19 ∷ [] in
-          let iu : List ℕ = 64 ∷ 65 ∷ 66 ∷ 67 ∷ [] in
-          arrives (marked 8 8 true) 4 true iu b ∷ reads (marked 8 8 true) (dataFrame 4 true iu) b ∷ [];
-      paper =
-          stored (marked 8 8 false) (10 ∷ 11 ∷ 12 ∷ 13 ∷ 64 ∷ 65 ∷ 66 ∷ 67 ∷ 18 ∷ 19 ∷ []) ∷
-          stored (marked 8 8 false) (10 ∷ 11 ∷ 12 ∷ 13 ∷ 64 ∷ 65 ∷ 66 ∷ 67 ∷ 18 ∷ 19 ∷ []) ∷ [];
-    }
+-- "Ten bytes, filled 8", that wait for CDP
+abbrev pub eight : Receiver
+eight = receiver.beginning (read 10) 0 10 with expected≔ 8 with filled≔ 8 with waiting≔ true
 
 unfoldable pub table : List Row
-table = R1 ∷ R2 ∷ R3 ∷ R4 ∷ R5 ∷ R6 ∷ R7 ∷ R8 ∷ R9 ∷ []
+table =
+    -- R1 "offset 4, four bytes: header 01 12 34 56 00 AB CD EF 00 00 00 00 00 00 00 00 00 12 00 00 00 00 00 04": the second frame of eight bytes
+    (sends 8 (ask ∷ []) (out 0 24) is
+    Outcome.value
+    (0x01 ∷ 0x12 ∷ 0x34 ∷ 0x56 ∷ 0x00 ∷ 0xab ∷ 0xcd ∷ 0xef ∷
+    0x00 ∷ 0x00 ∷ 0x00 ∷ 0x00 ∷ 0x00 ∷ 0x00 ∷ 0x00 ∷ 0x00 ∷
+    0x00 ∷ 0x12 ∷ 0x00 ∷ 0x00 ∷ 0x00 ∷ 0x00 ∷ 0x00 ∷ 0x04 ∷ [])) ∷
+    -- R2 "Two data bytes: 28-byte frame, byte 11 is 02h"
+    (sends 2 [] (λ s. ask s .says) is Outcome.value (Said.frame 28)) ∷
+    (sends 2 [] (out 11 1) is Outcome.value (0x02 ∷ [])) ∷
+    -- R3 "Count 0 and 16,777,217: 1. Count 1 and 16,777,216: taken"
+    (counts 0 is replicate 3 (Outcome.number 1)) ∷
+    (counts 16_777_217 is replicate 3 (Outcome.number 1)) ∷
+    (counts 1 is replicate 3 (Outcome.value (read 1))) ∷
+    (counts 16_777_216 is replicate 3 (Outcome.value (read 16_777_216))) ∷
+    -- R4 "ACK at once: 4"
+    (sends 16 [] (λ s. ackOf s .says) is Outcome.value (Said.refused 4)) ∷
+    -- R5 "Three sent, two ACKs, timeout: offset 0, CDP one": of four frames, bytes 20 to 23 and 10 of the next one
+    (sends 16 (ask ∷ ask ∷ ask ∷ ackOf ∷ ackOf ∷ timeoutOf ∷ []) (λ s. out 20 4 s ++ out 10 1 s) is Outcome.value (0 ∷ 0 ∷ 0 ∷ 0 ∷ 1 ∷ [])) ∷
+    -- R6 "Three sent, NAK: wait; two ACKs: offset 0, CDP one"
+    (sends 16 (ask ∷ ask ∷ ask ∷ nakOf ∷ []) (λ s. ask s .says) is Outcome.value (Said.told Word.wait)) ∷
+    (sends 16 (ask ∷ ask ∷ ask ∷ nakOf ∷ ask ∷ ackOf ∷ ackOf ∷ []) (λ s. out 20 4 s ++ out 10 1 s) is Outcome.value (0 ∷ 0 ∷ 0 ∷ 0 ∷ 1 ∷ [])) ∷
+    -- R7 "Limit 1, one frame, timed out twice: 29"; two frames were handed out
+    (sends 4 (ask ∷ timeoutOf ∷ ask ∷ []) (λ s. timeoutOf s .says) is Outcome.value (Said.failed 29 2)) ∷
+    -- R8 "Ten bytes: offset 10 gives 20; offset 0 with eleven bytes 21"
+    (of (receiver.setUpReadOf (read 10)) (λ r. arrivalOf r 10 false 4 10 .says) is Outcome.value (Said.failed 20 0)) ∷
+    (of (receiver.setUpReadOf (read 10)) (λ r. arrivalOf r 0 false 11 10 .says) is Outcome.value (Said.failed 21 0)) ∷
+    -- R9 "Ten bytes, filled 8, CDP one, offset 4, four bytes: stored": expected is its end 8, filled stays, waiting stops
+    (arrivalOf eight 4 true 4 10 is ((eight with waiting≔ false) saying Said.stored)) ∷
+    (storing (arrivalOf eight 4 true 4 10 .says) 4 (replicate 4 0x5a) (replicate 10 0xff) is replicate 4 0xff ++ replicate 4 0x5a ++ replicate 2 0xff) ∷ []

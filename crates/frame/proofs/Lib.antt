@@ -4,3 +4,4 @@ pub mod Place
 pub mod Writer
 pub mod Digits
 pub mod RoundTrip
+pub mod Hands

@@ -11,18 +11,17 @@ use lib.ListN.{length, getD, take, drop, replicate, length-append, length-replic
 use lib.Seq.{take-at, getD-take, getD-drop, getD-append-add}
 use borrow.Author.Tests.{le-leb, eq-eqb, lt-ltb, ltb-true, leb-true}
 use Rattle.status.specs.Pick.{pick}
-use Rattle.status.specs.declared.Refusal.the-variants.{MalformedFrame, UnexpectedFrameType}
+use Rattle.status.specs.Outcome.{Outcome}
 use Rattle.status.proofs.Choose.{each, in-true}
+use Rattle.status.proofs.Opened.{differ}
 use Rattle.frame.specs.Format.{isType, field, fillOf, headerBytes, dataBytes, encode}
 use Rattle.frame.specs.Write.{request, writable}
-use Rattle.frame.specs.Read.{fillCount, headerOf, wellFormed, iuLength, iuOf, decode}
+use Rattle.frame.specs.Read.{fillCount, headerIn, wellFormed, iuLength, iuOf, parsed, decode}
 use Rattle.frame.specs.Reserved.{bytesAt, cleared, kept}
 use Rattle.frame.specs.RoundTrip.{Bytes, InRange, ComesBack, WrittenAgain, Differs, DiffersAtMost, XferRdyComesBack}
 use Rattle.frame.specs.XferRdy.{xferRdyBytes, xferRdyOf}
 use Rattle.frame.specs.declared.types.Header.{Header}
-use Rattle.frame.specs.declared.types.XferRdyIu.the-variants.{Taken}
-use Rattle.frame.specs.declared.types.Decoded.{Decoded}
-use Rattle.frame.specs.declared.types.Decoded.the-variants.{Frame, Refused}
+use Rattle.frame.specs.declared.types.Parsed.{Parsed}
 use Rattle.frame.proofs.Bits.{flags-back, byte-back}
 use Rattle.frame.proofs.Digits.{field-digits, digits-field, field-fits}
 use Rattle.frame.proofs.Formed.{Formed, formed}
@@ -48,8 +47,8 @@ module _ (h : Header) (iu : List ℕ) where
   iu-length-back : iuLength (encode h iu) ≡ length iu
   iu-length-back = rw (encode-length h iu, fill-back) (omega arith)
 
-  header-back : InRange h → Writable h (length iu) → headerOf (encode h iu) ≡ h
-  unfolding headerOf encode headerBytes
+  header-back : InRange h → Writable h (length iu) → headerIn (encode h iu) ≡ h
+  unfolding headerIn encode headerBytes
   header-back r w i =
       record {
         kind = h .kind;
@@ -81,25 +80,24 @@ unfolding decode
 comes-back h iu r e =
     let w = writable-gives h (length iu) e in
     let b = encode h iu in
-    let answer : Frame h 24 (length iu) ≡ Frame (headerOf b) 24 (iuLength b) = λ i. Frame (sym (header-back h iu r w) i) 24 (sym (iu-length-back h iu) i) in
+    let answer : Outcome.value (record { header = h; start = 24; len = length iu }) ≡ Outcome.value (parsed b) =
+    λ i. Outcome.value (record { header = sym (header-back h iu r w) i; start = 24; len = sym (iu-length-back h iu) i }) in
     (sym (in-true _ _ _ _ (well-formed-back h iu w) (in-true _ _ _ _ (ap isType (kind-back h iu) ∙ w .kind) answer)), iu-back h iu)
 
 -- a frame that the reader takes
-pub record Accepted (b : List ℕ) (h : Header) (at n : ℕ) : Type 0 where
+pub record Accepted (b : List ℕ) (p : Parsed) : Type 0 where
   pub form : wellFormed b ≡ true
   pub kind : isType (getD b 0 0) ≡ true
-  pub header : headerOf b ≡ h
-  pub start : 24 ≡ at
-  pub len : iuLength b ≡ n
+  pub is : parsed b ≡ p
 
-pub accepted : (b : List ℕ) (h : Header) (start len : ℕ) → decode b ≡ Frame h start len → Accepted b h start len
+pub accepted : (b : List ℕ) (p : Parsed) → decode b ≡ Outcome.value p → Accepted b p
 unfolding decode pick
-accepted b h start len e = go (wellFormed b) (isType (getD b 0 0)) refl refl e
+accepted b p e = go (wellFormed b) (isType (getD b 0 0)) refl refl e
   where
-    go : (t u : Bool) → wellFormed b ≡ t → isType (getD b 0 0) ≡ u → pick t (pick u (Frame (headerOf b) 24 (iuLength b)) (Refused UnexpectedFrameType)) (Refused MalformedFrame) ≡ Frame h start len → Accepted b h start len
-    go true true p q e = record { form = p; kind = q; header = cc; start = cc; len = cc }
-    go true false p q e = let z : _≡_ {A = ℕ} 0 1 = cc in absurd (omega arith)
-    go false u p q e = let z : _≡_ {A = ℕ} 0 1 = cc in absurd (omega arith)
+    go : (t u : Bool) → wellFormed b ≡ t → isType (getD b 0 0) ≡ u → pick t (pick u (Outcome.value (parsed b)) (Outcome.number 6)) (Outcome.number 5) ≡ Outcome.value p → Accepted b p
+    go true true f k e = record { form = f; kind = k; is = cc }
+    go true false f k e = differ (cc)
+    go false u f k e = differ (cc)
 
 -- of the frames that the reader takes, read and written again
 module _ (b : List ℕ) (small : Bytes b) (f : Formed b) where
@@ -113,8 +111,8 @@ module _ (b : List ℕ) (small : Bytes b) (f : Formed b) where
       let m = f .fill in
       rw iu-size (omega arith)
 
-  header-again : headerBytes (headerOf b) (fillCount b) ≡ take 24 (cleared b)
-  unfolding headerBytes headerOf cleared
+  header-again : headerBytes (headerIn b) (fillCount b) ≡ take 24 (cleared b)
+  unfolding headerBytes headerIn cleared
   header-again i =
       (getD b 0 0 ∷ digits-field b small 1 3 i) ++
       (0 ∷ digits-field b small 5 3 i) ++
@@ -122,23 +120,22 @@ module _ (b : List ℕ) (small : Bytes b) (f : Formed b) where
       digits-field b small 18 2 i ++
       digits-field b small 20 4 i
 
-  frame-again : encode (headerOf b) (iuOf b) ≡ cleared b
+  frame-again : encode (headerIn b) (iuOf b) ≡ cleared b
   unfolding encode dataBytes cleared
   frame-again = rw fill-again (ap (λ (x : List ℕ). x ++ (iuOf b ++ replicate (fillCount b) 0)) header-again)
 
-  writable-again : isType (getD b 0 0) ≡ true → writable (headerOf b) (iuLength b) ≡ true
-  unfolding headerOf
+  writable-again : isType (getD b 0 0) ≡ true → writable (headerIn b) (iuLength b) ≡ true
+  unfolding headerIn
   writable-again k =
       let m = f .most in
       simp (k, lt-ltb (field b 1 3) (2 ^ 24) (field-fits b small 1 3), lt-ltb (field b 5 3) (2 ^ 24) (field-fits b small 5 3), le-leb (iuLength b) 1024 (omega arith))
 
 pub written-again : WrittenAgain
-written-again b h start len small e =
-    let a = accepted b h start len e in
+written-again b p small e =
+    let a = accepted b p e in
     let f = formed b (a .form) in
-    let w : writable (headerOf b) (iuLength b) ≡ true = writable-again b small f (a .kind) in
-    let g : encode (headerOf b) (take (iuLength b) (drop 24 b)) ≡ cleared b = frame-again b small f in
-    (rw (a .header, a .len) at w, rw (a .header, a .len, a .start) at g)
+    subst (λ (q : Parsed). (writable (q .header) (q .len) ≡ true) × (encode (q .header) (take (q .len) (drop (q .start) b)) ≡ cleared b)) (a .is)
+    (writable-again b small f (a .kind), frame-again b small f)
 
 -- P at each number below n
 All : ℕ → (ℕ → Type 0) → Type 0
@@ -189,11 +186,11 @@ module _ (b : List ℕ) (small : Bytes b) (f : Formed b) where
       ∙ getD-drop 24 b j 0)
 
 pub differs-at-most : DiffersAtMost
-differs-at-most b h start len small e =
-    let f = formed b (accepted b h start len e .form) in
+differs-at-most b p small e =
+    let f = formed b (accepted b p e .form) in
     record { size = sizes-agree b small f; header = headers-agree b small f; iu = ius-agree b small f }
 
 pub xfer-rdy-comes-back : XferRdyComesBack
 unfolding xferRdyOf xferRdyBytes pick
 xfer-rdy-comes-back x o l i =
-    Taken (record { offset = field-digits 4 (x .offset) [] o i; len = field-digits 4 (x .len) [] l i })
+    Outcome.value (record { offset = field-digits 4 (x .offset) [] o i; len = field-digits 4 (x .len) [] l i })

@@ -8,14 +8,11 @@ use lib.ListN.{length, take, replicate, length-append, length-replicate}
 use lib.Seq.{take-length}
 use borrow.Author.Tests.{le-leb, lt-leb}
 use Rattle.status.specs.Pick.{pick}
-use Rattle.status.specs.declared.Refusal.{Refusal}
-use Rattle.status.specs.declared.Refusal.the-variants.{BadRequest, FrameSpaceShort}
+use Rattle.status.specs.Outcome.{Outcome}
 use Rattle.status.proofs.Choose.{in-true, in-false}
 use Rattle.frame.specs.Format.{fillOf, headerBytes, dataBytes, encode}
 use Rattle.frame.specs.Write.{writable, writeAnswer, over, placed, put}
 use Rattle.frame.specs.declared.types.Header.{Header}
-use Rattle.frame.specs.declared.types.Written.{Written}
-use Rattle.frame.specs.declared.types.Written.the-variants.{Frame, Refused}
 use Rattle.frame.proofs.Place.{extended, at-front}
 
 pub header-length : (h : Header) (fill : ℕ) → length (headerBytes h fill) ≡ 24
@@ -50,19 +47,19 @@ module _ (h : Header) (iu d : List ℕ) where
       e₃ ∙ ap (λ (v : List ℕ). over v d) (append-assoc p iu z ∙ ap (λ (q : List ℕ). q ++ (iu ++ z)) ep₂ ∙ ap (λ (q : List ℕ). headerBytes h (fillOf (length iu)) ++ (iu ++ q)) ez₂)
 
   -- each answer, with what it leaves in the buffer
-  answers : (a : Written) (left : List ℕ) → a ≡ writeAnswer h iu d → left ≡ put a (encode h iu) d → (a ≡ writeAnswer h iu d) × (left ≡ put (writeAnswer h iu d) (encode h iu) d)
-  answers a left e p = (e, p ∙ ap (λ (x : Written). put x (encode h iu) d) e)
+  answers : (a : Outcome ℕ) (left : List ℕ) → a ≡ writeAnswer h iu d → left ≡ put a (encode h iu) d → (a ≡ writeAnswer h iu d) × (left ≡ put (writeAnswer h iu d) (encode h iu) d)
+  answers a left e p = (e, p ∙ ap (λ (x : Outcome ℕ). put x (encode h iu) d) e)
 
-  pub refuses-1 : writable h (length iu) ≡ false → (Refused BadRequest ≡ writeAnswer h iu d) × (d ≡ put (writeAnswer h iu d) (encode h iu) d)
-  refuses-1 w = answers (Refused BadRequest) d (in-false _ _ _ _ w refl) refl
+  pub refuses-1 : writable h (length iu) ≡ false → (Outcome.number 1 ≡ writeAnswer h iu d) × (d ≡ put (writeAnswer h iu d) (encode h iu) d)
+  refuses-1 w = answers (Outcome.number 1) d (in-false _ _ _ _ w refl) refl
 
-  pub refuses-3 : (f : ℕ) → f ≡ fillOf (length iu) → writable h (length iu) ≡ true → length d < 24 + length iu + f → (Refused FrameSpaceShort ≡ writeAnswer h iu d) × (d ≡ put (writeAnswer h iu d) (encode h iu) d)
+  pub refuses-3 : (f : ℕ) → f ≡ fillOf (length iu) → writable h (length iu) ≡ true → length d < 24 + length iu + f → (Outcome.number 3 ≡ writeAnswer h iu d) × (d ≡ put (writeAnswer h iu d) (encode h iu) d)
   refuses-3 f ef w short =
       let s : length d < length (encode h iu) = omega (arith, encode-length h iu) in
-      answers (Refused FrameSpaceShort) d (in-true _ _ _ _ w (in-false _ _ _ _ (lt-leb _ _ s) refl)) refl
+      answers (Outcome.number 3) d (in-true _ _ _ _ w (in-false _ _ _ _ (lt-leb _ _ s) refl)) refl
 
-  pub writes : (f : ℕ) (left : List ℕ) → f ≡ fillOf (length iu) → writable h (length iu) ≡ true → 24 + length iu + f ≤ length d → left ≡ over (encode h iu) d → (Frame (24 + length iu + f) ≡ writeAnswer h iu d) × (left ≡ put (writeAnswer h iu d) (encode h iu) d)
+  pub writes : (f : ℕ) (left : List ℕ) → f ≡ fillOf (length iu) → writable h (length iu) ≡ true → 24 + length iu + f ≤ length d → left ≡ over (encode h iu) d → (Outcome.value (24 + length iu + f) ≡ writeAnswer h iu d) × (left ≡ put (writeAnswer h iu d) (encode h iu) d)
   writes f left ef w long el =
       let n : 24 + length iu + f ≡ length (encode h iu) = omega (arith, encode-length h iu) in
       let s : length (encode h iu) ≤ length d = omega arith in
-      answers (Frame (24 + length iu + f)) left (in-true _ _ _ _ w (in-true _ _ _ _ (le-leb _ _ s) (ap Frame n))) el
+      answers (Outcome.value (24 + length iu + f)) left (in-true _ _ _ _ w (in-true _ _ _ _ (le-leb _ _ s) (ap (λ (k : ℕ). Outcome.value k) n))) el

@@ -5,9 +5,11 @@ use mathlib.Core.Bool.{Bool}
 use lib.ListN.{length, getD, take, drop}
 use lib.Dec.{leb, eqb}
 use Rattle.status.specs.Pick.{pick, all}
-use Rattle.status.specs.declared.Refusal.the-variants.{MalformedFrame, UnexpectedFrameType}
+use Rattle.status.specs.Number.{refusalNumber}
+use Rattle.status.specs.Outcome.{Outcome}
 use Rattle.frame.specs.Format.{isType, field, flagsOf}
 use Rattle.frame.specs.declared.types.Header.{Header}
+use Rattle.frame.specs.declared.types.Parsed.{Parsed}
 use Rattle.frame.specs.declared.types.Decoded.{Decoded}
 use Rattle.frame.specs.declared.types.Decoded.the-variants.{Frame, Refused}
 
@@ -16,8 +18,8 @@ abbrev pub fillCount : List ℕ → ℕ
 fillCount b = getD b 11 0 % 4
 
 -- the table of "The frame"; "other header bits are reserved: .. ignored when read"
-unfoldable pub headerOf : List ℕ → Header
-headerOf b =
+unfoldable pub headerIn : List ℕ → Header
+headerIn b =
     record {
       kind = getD b 0 0;
       dest = field b 1 3;
@@ -41,9 +43,15 @@ iuLength b = length b - 24 - fillCount b
 abbrev pub iuOf : List ℕ → List ℕ
 iuOf b = take (iuLength b) (drop 24 b)
 
--- 5, then 6, else the header and where the IU stands
-unfoldable pub decode : List ℕ → Decoded
-decode b =
-    pick (wellFormed b)
-    (pick (isType (getD b 0 0)) (Frame (headerOf b) 24 (iuLength b)) (Refused UnexpectedFrameType))
-    (Refused MalformedFrame)
+-- the reader's answer: a frame, or a number
+abbrev pub decoded : Decoded → Outcome Parsed
+decoded (Frame p) = Outcome.value p
+decoded (Refused why) = Outcome.number (refusalNumber why)
+
+-- the frame that well-formed bytes are: header, and where the IU stands
+abbrev pub parsed : List ℕ → Parsed
+parsed b = record { header = headerIn b; start = 24; len = iuLength b }
+
+-- 5, then 6, else the frame
+unfoldable pub decode : List ℕ → Outcome Parsed
+decode b = pick (wellFormed b) (pick (isType (getD b 0 0)) (Outcome.value (parsed b)) (Outcome.number 6)) (Outcome.number 5)

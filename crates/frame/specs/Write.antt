@@ -5,8 +5,10 @@ use mathlib.Core.Bool.{Bool}
 use lib.ListN.{length, take, drop}
 use lib.Dec.{ltb, leb}
 use Rattle.status.specs.Pick.{pick, all}
-use Rattle.status.specs.declared.Refusal.the-variants.{BadRequest, FrameSpaceShort}
-use Rattle.frame.specs.Format.{isType, fillOf, encode}
+use Rattle.status.specs.Number.{refusalNumber}
+use Rattle.status.specs.Answer.{Said, Left, _saying_}
+use Rattle.status.specs.Outcome.{Outcome}
+use Rattle.frame.specs.Format.{isType, encode}
 use Rattle.frame.specs.declared.types.Header.{Header}
 use Rattle.frame.specs.declared.types.Written.{Written}
 use Rattle.frame.specs.declared.types.Written.the-variants.{Frame, Refused}
@@ -18,12 +20,17 @@ request h n = isType (h .kind) ∷ ltb (h .dest) (2 ^ 24) ∷ ltb (h .source) (2
 abbrev pub writable : Header → ℕ → Bool
 writable h n = all (request h n)
 
+-- the writer's answer: the frame's length, or a number
+abbrev pub written : Written → Outcome ℕ
+written (Frame n) = Outcome.value n
+written (Refused why) = Outcome.number (refusalNumber why)
+
 -- 1, then 3, else the frame's length
-abbrev pub writeAnswer : Header → List ℕ → List ℕ → Written
+abbrev pub writeAnswer : Header → List ℕ → List ℕ → Outcome ℕ
 writeAnswer h iu out =
     pick (writable h (length iu))
-    (pick (leb (length (encode h iu)) (length out)) (Frame (length (encode h iu))) (Refused FrameSpaceShort))
-    (Refused BadRequest)
+    (pick (leb (length (encode h iu)) (length out)) (Outcome.value (length (encode h iu))) (Outcome.number 3))
+    (Outcome.number 1)
 
 -- f at the front of d; "output bytes beyond the frame stay unchanged"
 unfoldable pub over : List ℕ → List ℕ → List ℕ
@@ -34,6 +41,22 @@ unfoldable pub placed : List ℕ → ℕ → List ℕ → List ℕ
 placed d i s = take i d ++ (s ++ drop (i + length s) d)
 
 -- the output buffer after an answer for the frame f: a refusal changes no byte
-abbrev pub put : Written → List ℕ → List ℕ → List ℕ
-put (Frame n) f d = over f d
-put (Refused r) f d = d
+abbrev pub put : Outcome ℕ → List ℕ → List ℕ → List ℕ
+put (Outcome.value n) f d = over f d
+put (Outcome.number n) f d = d
+
+-- the same after a port's answer: the frame f stands in the output buffer if it was handed out
+abbrev pub handing : Said → List ℕ → List ℕ → List ℕ
+handing (Said.frame n) f out = over f out
+handing (Said.refused n) f out = out
+handing (Said.failed n k) f out = out
+handing (Said.delivered n) f out = out
+handing Said.stored f out = out
+handing Said.received f out = out
+handing (Said.burst t) f out = out
+handing (Said.response start len n) f out = out
+handing (Said.told w) f out = out
+
+-- a port x has the frame f due, and is y once it is handed out: "3: a frame is due, the output buffer is shorter"
+unfoldable pub hands : {X : Type 0} → X → X → List ℕ → List ℕ → Left X
+hands x y f out = pick (leb (length f) (length out)) (y saying Said.frame (length f)) (x saying Said.refused 3)

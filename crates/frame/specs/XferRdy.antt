@@ -4,7 +4,8 @@ use mathlib.Core.List.{List, [], _∷_, _++_}
 use lib.ListN.{length}
 use lib.Dec.{ltb}
 use Rattle.status.specs.Pick.{pick}
-use Rattle.status.specs.declared.Failure.the-variants.{XferRdyTooShort, XferRdyTooLong}
+use Rattle.status.specs.Number.{failureNumber}
+use Rattle.status.specs.Outcome.{Outcome}
 use Rattle.frame.specs.Format.{digits, field}
 use Rattle.frame.specs.declared.types.XferRdy.{XferRdy}
 use Rattle.frame.specs.declared.types.XferRdyIu.{XferRdyIu}
@@ -13,9 +14,13 @@ use Rattle.frame.specs.declared.types.XferRdyIu.the-variants.{Taken, Fai
 unfoldable pub xferRdyBytes : XferRdy → List ℕ
 xferRdyBytes x = digits 4 (x .offset) ++ digits 4 (x .len) ++ (0 ∷ 0 ∷ 0 ∷ 0 ∷ [])
 
+-- the reader's answer: offset and length, or a number
+abbrev pub xferRdyRead : XferRdyIu → Outcome XferRdy
+xferRdyRead (Taken x) = Outcome.value x
+xferRdyRead (Failed why) = Outcome.number (failureNumber why)
+
 -- 23 and 24: "under, over 12 bytes"
-unfoldable pub xferRdyOf : List ℕ → XferRdyIu
+unfoldable pub xferRdyOf : List ℕ → Outcome XferRdy
 xferRdyOf iu =
-    pick (ltb (length iu) 12) (Failed XferRdyTooShort)
-    (pick (ltb 12 (length iu)) (Failed XferRdyTooLong)
-    (Taken (record { offset = field iu 0 4; len = field iu 4 4 })))
+    pick (ltb (length iu) 12) (Outcome.number 23)
+    (pick (ltb 12 (length iu)) (Outcome.number 24) (Outcome.value (record { offset = field iu 0 4; len = field iu 4 4 })))

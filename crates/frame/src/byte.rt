@@ -3,18 +3,23 @@ ghost use mathlib.Core.Path.{_≡_};
 ghost use Prim.Native.Nat.{_+_, _*_, _^_, _≤_, _<_, _%_};
 ghost use lib.ListN.{length};
 ghost use Rattle.frame.specs.Format.{isType, flagByte, flagsOf, field};
+use crate::types::COMMAND;
+use crate::types::DATA;
 use crate::types::Flags;
+use crate::types::RESPONSE;
+use crate::types::TASK;
+use crate::types::XFER_RDY;
 
 // The five frame types; every other number is refused.
 pub(crate) fn known(kind: u8) -> bool
     ensures { λ r. ⌜ r ≡ isType kind ⌝ }
 {
     match kind {
-        0x01 => true,
-        0x05 => true,
-        0x06 => true,
-        0x07 => true,
-        0x16 => true,
+        DATA => true,
+        XFER_RDY => true,
+        COMMAND => true,
+        RESPONSE => true,
+        TASK => true,
         _ => false,
     }
 }

@@ -2,10 +2,11 @@
 ghost use mathlib.Core.Path.{_≡_};
 ghost use Prim.Native.Nat.{_≤_};
 ghost use lib.ListN.{length};
-ghost use Rattle.frame.specs.Read.{fillCount, headerOf, wellFormed, decode};
+ghost use Rattle.frame.specs.Read.{fillCount, headerIn, wellFormed, decoded, decode};
 use crate::byte;
 use crate::types::Decoded;
 use crate::types::Header;
+use crate::types::Parsed;
 use status::Refusal;
 
 fn fill_count(b: &[u8]) -> usize
@@ -17,7 +18,7 @@ fn fill_count(b: &[u8]) -> usize
 
 fn header_of(b: &[u8]) -> Header
     requires { ⌜ 24 ≤ length (now b) ⌝ }
-    ensures { λ r. ⌜ r ≡ headerOf (now (b .entry)) ⌝ }
+    ensures { λ r. ⌜ r ≡ headerIn (now (b .entry)) ⌝ }
 {
     Header {
         kind: b[0],
@@ -41,8 +42,9 @@ fn well_formed(b: &[u8]) -> bool
     (n <= 1048) & (n % 4 == 0) & (fill <= n - 24)
 }
 
+// Any bytes: 5, 6, else header, start and length of the IU.
 pub fn read(b: &[u8]) -> Decoded
-    ensures { λ r. ⌜ r ≡ decode (now (b .entry)) ⌝ }
+    ensures { λ r. ⌜ decoded r ≡ decode (now (b .entry)) ⌝ }
 {
     if !well_formed(b) {
         return Decoded::Refused(Refusal::MalformedFrame);
@@ -52,9 +54,9 @@ pub fn read(b: &[u8]) -> Decoded
     }
     let len = b.len() - 24 - fill_count(b);
     let header = header_of(b);
-    Decoded::Frame {
+    Decoded::Frame(Parsed {
         header: header,
         start: 24,
         len: len,
-    }
+    })
 }

@@ -3,7 +3,7 @@ ghost use mathlib.Core.Path.{_≡_};
 ghost use Prim.Native.Nat.{_+_, _≤_, _<_};
 ghost use lib.ListN.{length};
 ghost use Rattle.frame.specs.Format.{fillOf, headerBytes, encode};
-ghost use Rattle.frame.specs.Write.{writable, writeAnswer, put, over, placed};
+ghost use Rattle.frame.specs.Write.{writable, written, writeAnswer, put, over, placed};
 use crate::byte;
 use crate::types::Header;
 use crate::types::Written;
@@ -77,8 +77,9 @@ fn put_frame(h: Header, iu: &[u8], out: &mut [u8])
     place(&zeros[..fill], out, 24 + n);
 }
 
+// 1, 3, else the frame's length; the frame stands at the front of the output buffer.
 pub fn write(h: Header, iu: &[u8], out: &mut [u8]) -> Written
-    ensures { λ r. ⌜ (r ≡ writeAnswer h (now (iu .entry)) (now (out .entry))) × (now (out .exit) ≡ put (writeAnswer h (now (iu .entry)) (now (out .entry))) (encode h (now (iu .entry))) (now (out .entry))) ⌝ }
+    ensures { λ r. ⌜ (written r ≡ writeAnswer h (now (iu .entry)) (now (out .entry))) × (now (out .exit) ≡ put (writeAnswer h (now (iu .entry)) (now (out .entry))) (encode h (now (iu .entry))) (now (out .entry))) ⌝ }
 {
     let n = iu.len();
     if !can_write(h, n) {

@@ -7,10 +7,16 @@ mod xfer_rdy;
 
 pub use decode::read;
 pub use encode::write;
+pub use types::COMMAND;
+pub use types::DATA;
 pub use types::Decoded;
 pub use types::Flags;
 pub use types::Header;
+pub use types::Parsed;
+pub use types::RESPONSE;
+pub use types::TASK;
 pub use types::Written;
+pub use types::XFER_RDY;
 pub use types::XferRdy;
 pub use types::XferRdyIu;
 pub use xfer_rdy::read_xfer_rdy;

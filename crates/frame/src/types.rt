@@ -1,6 +1,17 @@
-// The header of a frame, the XFER_RDY's IU, and what the writer and the readers answer.
+// The frame types, the header of a frame, the XFER_RDY's IU, and what the writer and the readers answer.
 use status::Failure;
 use status::Refusal;
+
+// The five frame types.
+pub const DATA: u8 = 0x01;
+
+pub const XFER_RDY: u8 = 0x05;
+
+pub const COMMAND: u8 = 0x06;
+
+pub const RESPONSE: u8 = 0x07;
+
+pub const TASK: u8 = 0x16;
 
 // Byte 10.
 pub struct Flags {
@@ -31,13 +42,15 @@ pub enum Written {
     Refused(Refusal),
 }
 
+// A frame read: the IU is len bytes from start.
+pub struct Parsed {
+    pub header: Header,
+    pub start: usize,
+    pub len: usize,
+}
+
 pub enum Decoded {
-    // The IU is len bytes from start.
-    Frame {
-        header: Header,
-        start: usize,
-        len: usize,
-    },
+    Frame(Parsed),
     Refused(Refusal),
 }
 

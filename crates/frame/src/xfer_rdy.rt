@@ -1,11 +1,12 @@
 // The XFER_RDY's IU: requested offset, write data length, four reserved bytes.
 ghost use mathlib.Core.Path.{_≡_};
-ghost use Rattle.frame.specs.XferRdy.{xferRdyBytes, xferRdyOf};
+ghost use Rattle.frame.specs.XferRdy.{xferRdyBytes, xferRdyRead, xferRdyOf};
 use crate::byte;
 use crate::types::XferRdy;
 use crate::types::XferRdyIu;
 use status::Failure;
 
+// The 12 bytes of an XFER_RDY's IU.
 pub fn write_xfer_rdy(x: XferRdy) -> [u8; 12]
     ensures { λ r. ⌜ r ≡ xferRdyBytes x ⌝ }
 {
@@ -25,8 +26,9 @@ pub fn write_xfer_rdy(x: XferRdy) -> [u8; 12]
     ]
 }
 
+// An IU of any length: 23, 24, else offset and length.
 pub fn read_xfer_rdy(iu: &[u8]) -> XferRdyIu
-    ensures { λ r. ⌜ r ≡ xferRdyOf (now (iu .entry)) ⌝ }
+    ensures { λ r. ⌜ xferRdyRead r ≡ xferRdyOf (now (iu .entry)) ⌝ }
 {
     if iu.len() < 12 {
         return XferRdyIu::Failed(Failure::XferRdyTooShort);

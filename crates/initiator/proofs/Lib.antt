@@ -1,6 +1,10 @@
-pub mod Told
-pub mod Views
+pub mod ReadTold
+pub mod ReadViews
 pub mod WriteHeld
-pub mod WriteTold
+pub mod WriteFits
 pub mod WriteViews
 pub mod WriteCounts
+pub mod WriteTold
+pub mod WriteSame
+pub mod WriteEnded
+pub mod WriteKept

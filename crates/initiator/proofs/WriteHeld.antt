@@ -14,10 +14,10 @@ use Rattle.initiator.specs.declared.types.Writer.{Writer}
 -- the marks beside the sending port's
 pub record Marks (w : Writer) : Type 0 where
   pub reached-least : w .sender .next ≤ w .reached
-  pub reached-most : w .reached ≤ w .sender .end
-  pub base-most : w .base ≤ w .end
-  pub end-most : w .end ≤ w .sender .transfer .count
-  pub limit-most : w .limit ≤ w .sender .transfer .limit
+  pub reached-most : w .reached ≤ w .sender .burst .end
+  pub base-most : w .taken .base ≤ w .taken .end
+  pub end-most : w .taken .end ≤ w .sender .transfer .count
+  pub limit-most : w .taken .limit ≤ w .sender .transfer .limit
 
 pub record Held (w : Writer) : Type 0 where
   pub holds : sender.holdsOf (w .sender) ≡ true

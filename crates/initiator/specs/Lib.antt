@@ -1,5 +1,6 @@
-pub mod Role
 pub mod Read
+pub mod Fields
 pub mod WriteRecord
+pub mod WriteCount
 pub mod WriteSend
 pub mod WriteTake

@@ -1,121 +1,103 @@
 -- Arrivals of any bytes at the initiator of a write command: XFER_RDY and RESPONSE.
 use Prim.Native.Nat.{ℕ, _+_}
 use mathlib.Core.List.{List}
-use mathlib.Core.Bool.{Bool, true, false, _&&_, _||_}
-use lib.ListN.{length, take, drop}
+use mathlib.Core.Bool.{Bool, true, _&&_, _||_}
+use lib.ListN.{take, drop}
 use lib.Dec.{eqb, ltb}
-use Rattle.status.specs.Pick.{pick}
+use Rattle.status.specs.Pick.{pick, _with_}
 use Rattle.status.specs.Entry.{entryOf}
-use Rattle.status.specs.declared.Entry.{Entry}
-use Rattle.status.specs.declared.Refusal.{Refusal}
-use Rattle.status.specs.declared.Refusal.the-variants.{UnexpectedFrameType}
-use Rattle.status.specs.declared.Failure.{Failure}
-use Rattle.status.specs.declared.Failure.the-variants.{XferRdyIncorrectWriteDataLength, XferRdyRequestedOffsetError, XferRdyNotExpected, ResponseTooShort}
-use Rattle.frame.specs.Format.{XFER-RDY, RESPONSE}
-use Rattle.frame.specs.Read.{decode}
+use Rattle.status.specs.Number.{failureNumber}
+use Rattle.status.specs.Answer.{Taking, Said, Left, _saying_, unless}
+use Rattle.status.specs.Outcome.{Outcome}
+use Rattle.status.specs.declared.words.Failure.the-variants.{XferRdyIncorrectWriteDataLength, XferRdyRequestedOffsetError, XferRdyNotExpected}
 use Rattle.frame.specs.XferRdy.{xferRdyOf}
 use Rattle.frame.specs.declared.types.Header.{Header}
-use Rattle.frame.specs.declared.types.Decoded.{Decoded}
 use Rattle.frame.specs.declared.types.XferRdy.{XferRdy}
-use Rattle.frame.specs.declared.types.XferRdyIu.{XferRdyIu}
-use Rattle.arrival.specs.Screen.{screenOf}
+use Rattle.arrival.specs.Accept.{acceptOf}
+use Rattle.arrival.specs.declared.Role.the-variants.{WriteInitiator}
+use Rattle.arrival.specs.declared.Kind.{Kind}
+use Rattle.arrival.specs.declared.Arrived.{Arrived}
 use Rattle.sender.specs.Answer as answer
-use Rattle.initiator.specs.Role.{takesRead}
-use Rattle.initiator.specs.WriteRecord.{holdsOf, withSender, startedOf, pendingOf}
-use Rattle.initiator.specs.declared.types.Role.{Role}
+use Rattle.sender.specs.declared.types.Burst.{Burst}
+use Rattle.initiator.specs.Fields.{sender≔, pending≔, taken≔}
+use Rattle.initiator.specs.WriteRecord.{holdsOf, beginsOf}
 use Rattle.initiator.specs.declared.types.Verdict.{Verdict}
-use Rattle.initiator.specs.declared.types.Verdict.the-variants.{Take, Fail}
+use Rattle.initiator.specs.declared.types.Verdict.the-variants.{Next, Repeat, Fail}
 use Rattle.initiator.specs.declared.types.Writer.{Writer}
-use Rattle.initiator.specs.declared.types.WriteArrived.{WriteArrived}
-use Rattle.initiator.specs.declared.types.WriteAnswer.{WriteAnswer}
-
--- one match on the type byte: XFER_RDY and RESPONSE; "DATA against the command's direction is 6"
-unfoldable pub roleOf : ℕ → Role
-roleOf kind = pick (eqb kind XFER-RDY) Role.XferRdy (pick (eqb kind RESPONSE) Role.Response Role.Other)
-
-abbrev pub refusedBy : Writer → Refusal → WriteArrived
-refusedBy w why = record { writer = w; answer = WriteAnswer.Refused why }
-
-abbrev pub unless : Entry → Writer → WriteArrived → WriteArrived
-unless Entry.Open w y = y
-unless (Entry.Closed why) w y = refusedBy w why
 
 -- an ended record has nothing unanswered and no NAK pending; its other fields stay
 abbrev pub endedOf : Writer → Writer
-endedOf w = withSender w (answer.endedOf (w .sender))
+endedOf w = w with sender≔ (answer.endedOf (w .sender))
 
-abbrev pub failedOf : Writer → Failure → WriteArrived
-failedOf w why = record { writer = endedOf w; answer = WriteAnswer.Failed why (w .sender .frames) }
+abbrev pub failedOf : Writer → ℕ → Left Writer
+failedOf w n = endedOf w saying Said.failed n (w .sender .frames)
 
 -- "The previous burst is the last one taken, started or not"
-abbrev pub previousBase : Writer → ℕ
-previousBase w = pick (w .pending) (w .base) (w .sender .base)
-
-abbrev pub previousEnd : Writer → ℕ
-previousEnd w = pick (w .pending) (w .end) (w .sender .end)
+abbrev pub previous : Writer → Burst
+previous w = pick (w .pending) (w .taken) (w .sender .burst)
 
 -- "every frame of that burst was handed out at least once": the furthest offset is its end; of one that has not started none was (it is not empty: 25)
 abbrev pub allHanded : Writer → Bool
-allHanded w = pick (w .pending) (eqb (w .base) (w .end)) (eqb (w .reached) (w .sender .end))
+allHanded w = pick (w .pending) (eqb (w .taken .base) (w .taken .end)) (eqb (w .reached) (w .sender .burst .end))
 
 -- "25: 0, or offset plus length passes the count"
-unfoldable pub fitsOf : Writer → XferRdy → Verdict
-fitsOf w x = pick (eqb (x .len) 0 || ltb (w .sender .transfer .count) (x .offset + x .len)) (Fail XferRdyIncorrectWriteDataLength) Take
+unfoldable pub fitsOf : Writer → XferRdy → Verdict → Verdict
+fitsOf w x v = pick (eqb (x .len) 0 || ltb (w .sender .transfer .count) (x .offset + x .len)) (Fail XferRdyIncorrectWriteDataLength) v
 
--- "takes an offset equal to the previous burst's end .. if every frame of that burst was handed out at least once, else 27";
--- "with RETRANSMIT one it also takes the previous base, at any time"; "other offsets are 26"; then 25
+-- "with RETRANSMIT one it also takes the previous base, at any time" (before any burst there is none to repeat);
+-- "takes an offset equal to the previous burst's end .. if every frame of that burst was handed out at least once, else 27"; "other offsets are 26"; then 25
 unfoldable pub verdictOf : Writer → XferRdy → Bool → Verdict
 verdictOf w x retransmit =
-    pick (retransmit && eqb (x .offset) (previousBase w)) (fitsOf w x)
-    (pick (eqb (x .offset) (previousEnd w)) (pick (allHanded w) (fitsOf w x) (Fail XferRdyNotExpected))
+    pick (retransmit && eqb (x .offset) (previous w .base) && ltb (previous w .base) (previous w .end)) (fitsOf w x Repeat)
+    (pick (eqb (x .offset) (previous w .end)) (pick (allHanded w) (fitsOf w x Next) (Fail XferRdyNotExpected))
     (Fail XferRdyRequestedOffsetError))
 
 -- "RETRY DATA FRAMES zero makes its limit 0"
 abbrev pub limitOf : Writer → Bool → ℕ
 limitOf w retry = pick retry (w .sender .transfer .limit) 0
 
--- how many frames the burst before it handed out
-abbrev pub handedOf : Writer → ℕ
-handedOf w = pick (w .pending) 0 (w .sender .frames)
+abbrev pub askedOf : Writer → Header → XferRdy → Burst
+askedOf w h x = record { base = x .offset; end = x .offset + x .len; tptt = h .tptt; limit = limitOf w (h .flags .retry) }
 
--- "the old burst then counts as delivered"; "the new burst starts .. once nothing is unanswered"
-unfoldable pub burstTaken : Writer → Header → XferRdy → WriteArrived
-burstTaken w h x =
-    pick (eqb (w .sender .unanswered) 0)
-    (record { writer = startedOf w (x .offset) (x .offset + x .len) (h .tptt) (limitOf w (h .flags .retry)); answer = WriteAnswer.XferRdy (handedOf w) })
-    (record { writer = pendingOf w (x .offset) (x .offset + x .len) (h .tptt) (limitOf w (h .flags .retry)); answer = WriteAnswer.XferRdy (handedOf w) })
+-- the delivery of the burst in service was reported, or there was none: with nothing unanswered its next offset is the end
+abbrev pub reportedOf : Writer → Bool
+reportedOf w = eqb (w .sender .unanswered) 0 && eqb (w .sender .next) (w .sender .burst .end)
 
-abbrev pub judgedOf : Verdict → Writer → Header → XferRdy → WriteArrived
-judgedOf (Fail why) w h x = failedOf w why
-judgedOf Take w h x = burstTaken w h x
+-- "the old burst then counts as delivered": told with its count where that was not reported before
+unfoldable pub nextTaken : Writer → Said
+nextTaken w = Said.burst (pick (reportedOf w) Taking.next (Taking.delivers (w .sender .frames)))
+
+-- "the new burst starts .. once nothing is unanswered"
+unfoldable pub burstTaken : Writer → Burst → Said → Left Writer
+burstTaken w b said = pick (eqb (w .sender .unanswered) 0) (beginsOf (w .sender .transfer) b) (w with pending≔ true with taken≔ b) saying said
+
+abbrev pub judgedBy : Verdict → Writer → Header → XferRdy → Left Writer
+judgedBy (Fail why) w h x = failedOf w (failureNumber why)
+judgedBy Next w h x = burstTaken w (askedOf w h x) (nextTaken w)
+judgedBy Repeat w h x = burstTaken w (askedOf w h x) (Said.burst Taking.repeats)
 
 -- "XFER_RDY 23, 24, 27, 26, 25"
-abbrev pub sizedOf : XferRdyIu → Writer → Header → WriteArrived
-sizedOf (XferRdyIu.Failed why) w h = failedOf w why
-sizedOf (XferRdyIu.Taken x) w h = judgedOf (verdictOf w x (h .flags .retransmit)) w h x
+abbrev pub sizedBy : Outcome XferRdy → Writer → Header → Left Writer
+sizedBy (Outcome.number n) w h = failedOf w n
+sizedBy (Outcome.value x) w h = judgedBy (verdictOf w x (h .flags .retransmit)) w h x
 
-unfoldable pub xferRdyTaken : Writer → Header → List ℕ → WriteArrived
-xferRdyTaken w h iu = sizedOf (xferRdyOf iu) w h
+unfoldable pub xferRdyTaken : Writer → Header → List ℕ → Left Writer
+xferRdyTaken w h iu = sizedBy (xferRdyOf iu) w h
 
 -- "32: under 24 bytes"; "a RESPONSE ends the command"
-unfoldable pub responseOf : Writer → ℕ → ℕ → WriteArrived
-responseOf w start len = pick (ltb len 24) (failedOf w ResponseTooShort) (record { writer = endedOf w; answer = WriteAnswer.Response start len })
+unfoldable pub responseOf : Writer → ℕ → ℕ → Left Writer
+responseOf w start len = pick (ltb len 24) (failedOf w 32) (endedOf w saying Said.response start len (w .sender .frames))
 
--- a frame f that has passed 5 to 8, by its type
-abbrev pub takenOf : Role → Writer → Header → ℕ → ℕ → List ℕ → WriteArrived
-takenOf Role.XferRdy w h start len f = xferRdyTaken w h (take len (drop start f))
-takenOf Role.Response w h start len f = responseOf w start len
-takenOf Role.Data w h start len f = refusedBy w UnexpectedFrameType
-takenOf Role.Other w h start len f = refusedBy w UnexpectedFrameType
+-- a frame f that has passed 5 to 8, by what it is taken for
+abbrev pub takenOf : Kind → Writer → Arrived → List ℕ → Left Writer
+takenOf Kind.XferRdy w a f = xferRdyTaken w (a .header) (take (a .len) (drop (a .start) f))
+takenOf Kind.Response w a f = responseOf w (a .start) (a .len)
+takenOf Kind.Data w a f = w saying Said.refused 6
+takenOf Kind.Other w a f = w saying Said.refused 6
 
--- "5, 6, 7, 8 for arrivals"
-abbrev pub screenedOf : Decoded → Writer → List ℕ → WriteArrived
-screenedOf (Decoded.Refused why) w f = refusedBy w why
-screenedOf (Decoded.Frame h start len) w f =
-    unless (screenOf (w .sender .transfer) h (takesRead (roleOf (h .kind)))) w (takenOf (roleOf (h .kind)) w h start len f)
+abbrev pub arrivedBy : Outcome Arrived → Writer → List ℕ → Left Writer
+arrivedBy (Outcome.number n) w f = w saying Said.refused n
+arrivedBy (Outcome.value a) w f = takenOf (a .kind) w a f
 
-unfoldable pub framedOf : Writer → List ℕ → WriteArrived
-framedOf w f = screenedOf (decode f) w f
-
-unfoldable pub arrivedOf : Writer → List ℕ → WriteArrived
-arrivedOf w f = unless (entryOf (holdsOf w) (w .sender .ended)) w (framedOf w f)
+unfoldable pub writeArrivalOf : Writer → List ℕ → Left Writer
+writeArrivalOf w f = unless (entryOf (holdsOf w) (w .sender .ended)) w (arrivedBy (acceptOf WriteInitiator (w .sender .transfer) f) w f)

@@ -1,20 +1,12 @@
-// The initiator port: what arrives at the host, and what it sends in a write command.
+// The initiator port: what arrives at the host, and what it sends in a write command. A read's record is the receiving port's own (crate receiver).
 mod read;
 mod types;
 mod write_record;
 mod write_send;
 mod write_take;
 
-pub use read::nexus_lost;
 pub use read::read_frame_received;
-pub use read::set_up_read;
-pub use types::ReadAnswer;
-pub use types::ReadArrived;
-pub use types::ReadSetup;
-pub use types::Role;
-pub use types::Verdict;
-pub use types::WriteAnswer;
-pub use types::WriteArrived;
+pub use read::read_nexus_lost;
 pub use types::WriteSetup;
 pub use types::WriteStepped;
 pub use types::Writer;

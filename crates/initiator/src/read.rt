@@ -1,160 +1,119 @@
-// A read command at the initiator: the receiving end of the transfer.
+// A read command at the initiator: arrivals at the receiving end of the transfer.
 ghost use mathlib.Core.Path.{_≡_};
 ghost use Prim.Native.Nat.{_+_, _≤_};
 ghost use lib.ListN.{length, take, drop};
-ghost use Rattle.frame.specs.Read.{headerOf, iuOf};
-ghost use Rattle.initiator.specs.Role.{roleOf, takesRead};
-ghost use Rattle.initiator.specs.Read.{setUpOf, lifted, notExpectedOf, responseOf, takenOf, framedOf, readOf, lossOf, after};
-use crate::types::ReadAnswer;
-use crate::types::ReadArrived;
-use crate::types::ReadSetup;
-use crate::types::Role;
-use frame::Decoded;
-use frame::Header;
+ghost use Rattle.status.specs.Number.{refusalNumber, failureNumber};
+ghost use Rattle.status.specs.Answer.{Said, _saying_};
+ghost use Rattle.frame.specs.Read.{headerIn, iuOf};
+ghost use Rattle.receiver.specs.Record.{stepped, failedOf};
+ghost use Rattle.receiver.specs.DataFrame.{storing};
+ghost use Rattle.initiator.specs.Read.{notExpectedOf, responseOf, takenOf, readArrivalOf, readLossOf};
+use arrival::Accepted;
+use arrival::Arrived;
+use arrival::Kind;
+use arrival::Role;
 use frame::XferRdyIu;
-use receiver::Received;
 use receiver::Receiver;
+use receiver::Stepped;
+use status::Answer;
 use status::Entry;
 use status::Failure;
 use status::Refusal;
-use transfer::Transfer;
 
-// None of the read's data has arrived.
-pub fn set_up_read(t: Transfer) -> ReadSetup
-    ensures { λ r. ⌜ r ≡ setUpOf t ⌝ }
+// A refusal leaves the record as it was.
+fn refused(r: Receiver, why: Refusal) -> Stepped
+    ensures { λ x. ⌜ stepped x ≡ (r saying Said.refused (refusalNumber why)) ⌝ }
 {
-    let limits = t.limits_hold();
-    if limits & !t.write {
-        ReadSetup::Ready(Receiver {
-            transfer: t,
-            base: 0,
-            end: t.count,
-            expected: 0,
-            filled: 0,
-            waiting: false,
-            ended: false,
-        })
-    } else {
-        ReadSetup::Refused(Refusal::BadRequest)
-    }
-}
-
-// One match on the type byte: the initiator of a read takes DATA, XFER_RDY and RESPONSE.
-fn role_of(kind: u8) -> Role
-    ensures { λ r. ⌜ r ≡ roleOf kind ⌝ }
-{
-    match kind {
-        0x01 => Role::Data,
-        0x05 => Role::XferRdy,
-        0x07 => Role::Response,
-        _ => Role::Other,
-    }
-}
-
-fn is_taken(r: Role) -> bool
-    ensures { λ x. ⌜ x ≡ takesRead r ⌝ }
-{
-    match r {
-        Role::Data => true,
-        Role::XferRdy => true,
-        Role::Response => true,
-        Role::Other => false,
-    }
-}
-
-fn lift(x: Received) -> ReadArrived
-    ensures { λ y. ⌜ y ≡ lifted x ⌝ }
-{
-    let r = x.receiver;
-    let a = x.arrival;
-    ReadArrived {
+    Stepped {
         receiver: r,
-        answer: ReadAnswer::Arrival(a),
+        answer: Answer::Refused(why),
+    }
+}
+
+// A failure ends the port.
+fn failed(mut r: Receiver, why: Failure) -> Stepped
+    ensures { λ x. ⌜ stepped x ≡ failedOf r (failureNumber why) ⌝ }
+{
+    r.ended = true;
+    Stepped {
+        receiver: r,
+        answer: Answer::Failed(why, 0),
     }
 }
 
 // An XFER_RDY in a read: 23, 24, then 27.
-fn not_expected(r: Receiver, iu: &[u8]) -> ReadArrived
-    ensures { λ x. ⌜ x ≡ notExpectedOf r (now (iu .entry)) ⌝ }
+fn not_expected(r: Receiver, iu: &[u8]) -> Stepped
+    ensures { λ x. ⌜ stepped x ≡ notExpectedOf r (now (iu .entry)) ⌝ }
 {
     match frame::read_xfer_rdy(iu) {
-        XferRdyIu::Failed(why) => lift(receiver::failed(r, why)),
-        XferRdyIu::Taken(_) => lift(receiver::failed(r, Failure::XferRdyNotExpected)),
+        XferRdyIu::Failed(why) => failed(r, why),
+        XferRdyIu::Taken(_) => failed(r, Failure::XferRdyNotExpected),
     }
 }
 
 // A RESPONSE: 32 under 24 bytes, else the command has ended.
-fn response(mut r: Receiver, start: usize, len: usize) -> ReadArrived
-    ensures { λ x. ⌜ x ≡ responseOf r start len ⌝ }
+fn response(mut r: Receiver, start: usize, len: usize) -> Stepped
+    ensures { λ x. ⌜ stepped x ≡ responseOf r start len ⌝ }
 {
     if len < 24 {
-        return lift(receiver::failed(r, Failure::ResponseTooShort));
+        return failed(r, Failure::ResponseTooShort);
     }
     r.ended = true;
-    ReadArrived {
+    Stepped {
         receiver: r,
-        answer: ReadAnswer::Response {
+        answer: Answer::Response {
             start: start,
             len: len,
+            frames: 0,
         },
     }
 }
 
 // A frame that has passed 5 to 8.
-fn take(
-    r: Receiver,
-    role: Role,
-    h: Header,
-    start: usize,
-    len: usize,
-    bytes: &[u8],
-    buffer: &mut [u8],
-) -> ReadArrived
-    requires { ⌜ start + len ≤ length (now bytes) ⌝ }
-    ensures { λ x. ⌜ (x ≡ takenOf role r h start len (now (bytes .entry)) (length (now (buffer .entry)))) × (now (buffer .exit) ≡ after (takenOf role r h start len (now (bytes .entry)) (length (now (buffer .entry))) .answer) (h .offset) (take len (drop start (now (bytes .entry)))) (now (buffer .entry))) ⌝ }
+fn take(r: Receiver, a: Arrived, bytes: &[u8], buffer: &mut [u8]) -> Stepped
+    requires { ⌜ a .start + a .len ≤ length (now bytes) ⌝ }
+    ensures { λ x. ⌜ (stepped x ≡ takenOf (a .kind) r a (now (bytes .entry)) (length (now (buffer .entry)))) × (now (buffer .exit) ≡ storing (takenOf (a .kind) r a (now (bytes .entry)) (length (now (buffer .entry))) .says) (a .header .offset) (take (a .len) (drop (a .start) (now (bytes .entry)))) (now (buffer .entry))) ⌝ }
 {
-    let past = start + len;
+    let kind = a.kind;
+    let h = a.header;
+    let start = a.start;
+    let past = start + a.len;
     let iu = &bytes[start..past];
-    match role {
-        Role::Data => {
+    match kind {
+        Kind::Data => {
             let flags = h.flags;
-            lift(receiver::data_received(r, h.offset, flags.cdp, iu, buffer))
+            receiver::data_received(r, h.offset, flags.cdp, iu, buffer)
         }
-        Role::XferRdy => not_expected(r, iu),
-        Role::Response => response(r, start, len),
-        Role::Other => lift(receiver::refused(r, Refusal::UnexpectedFrameType)),
+        Kind::XferRdy => not_expected(r, iu),
+        Kind::Response => response(r, start, a.len),
+        Kind::Other => refused(r, Refusal::UnexpectedFrameType),
     }
 }
 
-// Any bytes: 5, 6, 7, 8, then by type.
-fn framed(r: Receiver, bytes: &[u8], buffer: &mut [u8]) -> ReadArrived
-    ensures { λ x. ⌜ (x ≡ framedOf r (now (bytes .entry)) (length (now (buffer .entry)))) × (now (buffer .exit) ≡ after (framedOf r (now (bytes .entry)) (length (now (buffer .entry))) .answer) (headerOf (now (bytes .entry)) .offset) (iuOf (now (bytes .entry))) (now (buffer .entry))) ⌝ }
+// 1, 2, 5, 6, 7, 8; DATA as the receiving port: discarded (filled), 20, 21, 22, discarded, stored or received; XFER_RDY 23, 24, 27; RESPONSE 32, else where
+// its IU stands.
+pub fn read_frame_received(r: Receiver, bytes: &[u8], buffer: &mut [u8]) -> Stepped
+    ensures { λ x. ⌜ (stepped x ≡ readArrivalOf r (now (bytes .entry)) (length (now (buffer .entry)))) × (now (buffer .exit) ≡ storing (readArrivalOf r (now (bytes .entry)) (length (now (buffer .entry))) .says) (headerIn (now (bytes .entry)) .offset) (iuOf (now (bytes .entry))) (now (buffer .entry))) ⌝ }
 {
-    match frame::read(bytes) {
-        Decoded::Refused(why) => lift(receiver::refused(r, why)),
-        Decoded::Frame { header, start, len } => {
-            let role = role_of(header.kind);
-            let t = r.transfer;
-            match arrival::screen(t, header, is_taken(role)) {
-                Entry::Closed(why) => lift(receiver::refused(r, why)),
-                Entry::Open => take(r, role, header, start, len, bytes, buffer),
-            }
-        }
+    let lent = receiver::lent(r, buffer.len());
+    let t = r.transfer;
+    match status::admit(lent & !t.write, r.ended) {
+        Entry::Closed(why) => refused(r, why),
+        Entry::Open => match arrival::accept(Role::ReadInitiator, t, bytes) {
+            Accepted::Refused(why) => refused(r, why),
+            Accepted::Frame(a) => take(r, a, bytes, buffer),
+        },
     }
 }
 
-pub fn read_frame_received(r: Receiver, bytes: &[u8], buffer: &mut [u8]) -> ReadArrived
-    ensures { λ x. ⌜ (x ≡ readOf r (now (bytes .entry)) (length (now (buffer .entry)))) × (now (buffer .exit) ≡ after (readOf r (now (bytes .entry)) (length (now (buffer .entry))) .answer) (headerOf (now (bytes .entry)) .offset) (iuOf (now (bytes .entry))) (now (buffer .entry))) ⌝ }
+// 1, 2, else 31.
+pub fn read_nexus_lost(r: Receiver) -> Stepped
+    ensures { λ x. ⌜ stepped x ≡ readLossOf r ⌝ }
 {
-    let ok = receiver::lent(r, buffer.len());
-    match status::admit(ok, r.ended) {
-        Entry::Closed(why) => lift(receiver::refused(r, why)),
-        Entry::Open => framed(r, bytes, buffer),
+    let holds = receiver::holds(r);
+    let t = r.transfer;
+    match status::admit(holds & !t.write, r.ended) {
+        Entry::Closed(why) => refused(r, why),
+        Entry::Open => failed(r, Failure::NexusLoss),
     }
-}
-
-pub fn nexus_lost(r: Receiver) -> ReadArrived
-    ensures { λ x. ⌜ x ≡ lossOf r ⌝ }
-{
-    lift(receiver::nexus_lost(r))
 }

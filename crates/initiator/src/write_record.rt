@@ -1,9 +1,13 @@
-// The record of a write command: its set-up, the tests of number 1, and the bursts.
+// The record of a write command: its set-up, the tests of number 1, and how a burst starts.
 ghost use mathlib.Core.Path.{_≡_};
-ghost use Rattle.initiator.specs.WriteRecord.{holdsOf, setUpOf, withSender, startedOf, pendingOf, startsOf};
+ghost use Rattle.status.specs.Number.{refusalNumber};
+ghost use Rattle.status.specs.Answer.{Said, _saying_};
+ghost use Rattle.initiator.specs.WriteRecord.{holdsOf, beginsOf, made, setUpWriteOf, stepped};
 use crate::types::WriteSetup;
+use crate::types::WriteStepped;
 use crate::types::Writer;
-use sender::Sender;
+use sender::Burst;
+use status::Answer;
 use status::Refusal;
 use transfer::Transfer;
 
@@ -13,103 +17,61 @@ pub fn writer_holds(w: Writer) -> bool
 {
     let s = w.sender;
     let t = s.transfer;
+    let b = s.burst;
+    let n = w.taken;
     let core = sender::holds(s);
     core
         & t.write
         & (s.next <= w.reached)
-        & (w.reached <= s.end)
-        & (w.base <= w.end)
-        & (w.end <= t.count)
-        & (w.limit <= t.limit)
+        & (w.reached <= b.end)
+        & (n.base <= n.end)
+        & (n.end <= t.count)
+        & (n.limit <= t.limit)
 }
 
-// No burst is taken yet: an empty one at 0, all handed out.
-pub fn set_up_write(t: Transfer) -> WriteSetup
-    ensures { λ r. ⌜ r ≡ setUpOf t ⌝ }
+// A refusal leaves the record as it was.
+pub(crate) fn refused(w: Writer, why: Refusal) -> WriteStepped
+    ensures { λ r. ⌜ stepped r ≡ (w saying Said.refused (refusalNumber why)) ⌝ }
 {
-    let limits = t.limits_hold();
-    if limits & t.write {
-        WriteSetup::Ready(Writer {
-            sender: Sender {
-                transfer: t,
-                limit: t.limit,
-                tptt: 0,
-                base: 0,
-                end: 0,
-                next: 0,
-                balance: 0,
-                unanswered: 0,
-                nak: false,
-                cdp: false,
-                retries: 0,
-                frames: 0,
-                ended: false,
-            },
-            reached: 0,
-            pending: false,
-            base: 0,
-            end: 0,
-            tptt: 0,
-            limit: 0,
-        })
-    } else {
-        WriteSetup::Refused(Refusal::BadRequest)
+    WriteStepped {
+        writer: w,
+        answer: Answer::Refused(why),
     }
 }
 
-pub(crate) fn with_sender(mut w: Writer, s: Sender) -> Writer
-    ensures { λ r. ⌜ r ≡ withSender w s ⌝ }
-{
-    w.sender = s;
-    w
-}
-
 // A burst starts: retries zero, no NAK pending, nothing handed out.
-pub(crate) fn started(w: Writer, base: u32, end: u32, tptt: u16, limit: u32) -> Writer
-    ensures { λ r. ⌜ r ≡ startedOf w base end tptt limit ⌝ }
+pub(crate) fn begin(t: Transfer, b: Burst) -> Writer
+    ensures { λ r. ⌜ r ≡ beginsOf t b ⌝ }
 {
-    let s = w.sender;
-    let t = s.transfer;
-    Writer {
-        sender: Sender {
-            transfer: t,
-            limit: limit,
-            tptt: tptt,
-            base: base,
-            end: end,
-            next: base,
-            balance: base,
-            unanswered: 0,
-            nak: false,
-            cdp: false,
-            retries: 0,
-            frames: 0,
-            ended: s.ended,
-        },
-        reached: base,
-        pending: false,
+    let s = sender::begin(t, b);
+    let none = Burst {
         base: 0,
         end: 0,
         tptt: 0,
         limit: 0,
+    };
+    Writer {
+        sender: s,
+        reached: b.base,
+        pending: false,
+        taken: none,
     }
 }
 
-// The burst that was taken starts.
-pub(crate) fn starts(w: Writer) -> Writer
-    ensures { λ r. ⌜ r ≡ startsOf w ⌝ }
+// No burst is taken yet: 1, else the record with an empty burst at 0, all handed out.
+pub fn set_up_write(t: Transfer) -> WriteSetup
+    ensures { λ r. ⌜ made r ≡ setUpWriteOf t ⌝ }
 {
-    started(w, w.base, w.end, w.tptt, w.limit)
-}
-
-// A burst is taken while frames are unanswered.
-pub(crate) fn pending(mut w: Writer, base: u32, end: u32, tptt: u16, limit: u32) -> Writer
-    ensures { λ r. ⌜ r ≡ pendingOf w base end tptt limit ⌝ }
-{
-    w.pending = true;
-    w.base = base;
-    w.end = end;
-    w.tptt = tptt;
-    w.limit = limit;
-    w
+    let limits = t.limits_hold();
+    if limits & t.write {
+        let b = Burst {
+            base: 0,
+            end: 0,
+            tptt: 0,
+            limit: t.limit,
+        };
+        WriteSetup::Ready(begin(t, b))
+    } else {
+        WriteSetup::Refused(Refusal::BadRequest)
+    }
 }

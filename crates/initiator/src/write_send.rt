@@ -1,35 +1,30 @@
 // A write command's frames asked for, and the answers to them, over the sending port.
 ghost use mathlib.Core.Path.{_≡_};
-ghost use Prim.Native.Nat.{_≤_, max};
-ghost use lib.ListN.{length};
-ghost use Rattle.sender.specs.Transmit.{frameOf, after};
-ghost use Rattle.initiator.specs.WriteSend.{refusedBy, liftedOf, reachedOf, loweredOf, clearedOf, lentOf, answerableOf, nextOf, ackOf, nakOf, timeoutOf, cutOf, lossOf};
+ghost use mathlib.Core.List.{[]};
+ghost use Prim.Native.Nat.{_-_, max};
+ghost use Rattle.frame.specs.Write.{handing};
+ghost use Rattle.sender.specs.Record as sender;
+ghost use Rattle.sender.specs.Transmit.{frameOf};
+ghost use Rattle.initiator.specs.WriteRecord.{startsOf, stepped};
+ghost use Rattle.initiator.specs.WriteCount.{Counts};
+ghost use Rattle.initiator.specs.WriteSend.{liftedOf, reachedOf, lentOf, heldUp, begunOf, keptOf, nextOf, countedOf, answeredOf, ackOf, nakOf, timeoutOf, cutOf, lossOf};
 use crate::types::WriteStepped;
 use crate::types::Writer;
 use crate::write_record;
-use sender::Report;
 use sender::Stepped;
+use status::Answer;
 use status::Entry;
-use status::Refusal;
-
-fn refused(w: Writer, why: Refusal) -> WriteStepped
-    ensures { λ r. ⌜ r ≡ refusedBy w why ⌝ }
-{
-    WriteStepped {
-        writer: w,
-        report: Report::Refused(why),
-    }
-}
 
 // What the sending port answers.
-fn lift(w: Writer, x: Stepped) -> WriteStepped
-    ensures { λ r. ⌜ r ≡ liftedOf w x ⌝ }
+fn lift(mut w: Writer, x: Stepped) -> WriteStepped
+    ensures { λ r. ⌜ stepped r ≡ liftedOf w (sender.stepped x) ⌝ }
 {
     let s = x.sender;
-    let q = x.report;
+    let a = x.answer;
+    w.sender = s;
     WriteStepped {
-        writer: write_record::with_sender(w, s),
-        report: q,
+        writer: w,
+        answer: a,
     }
 }
 
@@ -40,17 +35,32 @@ fn greater(a: u32, b: u32) -> u32
 }
 
 // The same after a frame asked for, which may have reached further.
-fn reach(w: Writer, x: Stepped) -> WriteStepped
-    ensures { λ r. ⌜ r ≡ reachedOf w x ⌝ }
+fn reach(mut w: Writer, x: Stepped) -> WriteStepped
+    ensures { λ r. ⌜ stepped r ≡ reachedOf w (sender.stepped x) ⌝ }
 {
     let s = x.sender;
-    let q = x.report;
-    let mut v = write_record::with_sender(w, s);
-    v.reached = greater(w.reached, s.next);
+    let a = x.answer;
+    let furthest = greater(w.reached, s.next);
+    w.sender = s;
+    w.reached = furthest;
     WriteStepped {
-        writer: v,
-        report: q,
+        writer: w,
+        answer: a,
     }
+}
+
+// A refusal leaves the record as it was.
+fn keep(w: Writer, y: WriteStepped) -> WriteStepped
+    ensures { λ r. ⌜ stepped r ≡ keptOf w (stepped y) ⌝ }
+{
+    let a = y.answer;
+    if a.refuses() {
+        return WriteStepped {
+            writer: w,
+            answer: a,
+        };
+    }
+    y
 }
 
 // Number 1 does not apply, the data buffer's length included.
@@ -62,146 +72,139 @@ fn lent(w: Writer, n: usize) -> bool
     holds & (n == count)
 }
 
+// A burst is taken, and frames of the one before are unanswered.
+fn held_up(w: Writer) -> bool
+    ensures { λ r. ⌜ r ≡ heldUp w ⌝ }
+{
+    let s = w.sender;
+    w.pending & (s.unanswered != 0)
+}
+
+// The burst that was taken starts.
+fn start(w: Writer) -> Writer
+    ensures { λ r. ⌜ r ≡ startsOf w ⌝ }
+{
+    let t = w.sender.transfer;
+    let b = w.taken;
+    write_record::begin(t, b)
+}
+
+// The record that serves a frame.
+fn begun(w: Writer) -> Writer
+    ensures { λ r. ⌜ r ≡ begunOf w ⌝ }
+{
+    if w.pending { start(w) } else { w }
+}
+
+// 1, 2; wait (also while a taken burst waits for answers); 3, else a frame of that length.
 pub fn write_next_frame(w: Writer, buffer: &[u8], out: &mut [u8]) -> WriteStepped
-    ensures { λ r. ⌜ (r ≡ nextOf w (now (buffer .entry)) (now (out .entry))) × (now (out .exit) ≡ after (nextOf w (now (buffer .entry)) (now (out .entry)) .report) (frameOf (w .sender) (now (buffer .entry))) (now (out .entry))) ⌝ }
+    ensures { λ r. ⌜ (stepped r ≡ nextOf w (now (buffer .entry)) (now (out .entry))) × (now (out .exit) ≡ handing (nextOf w (now (buffer .entry)) (now (out .entry)) .says) (frameOf (begunOf w .sender) (now (buffer .entry))) (now (out .entry))) × Counts w (frameOf (begunOf w .sender) (now (buffer .entry))) (stepped r) ⌝ }
 {
     let ok = lent(w, buffer.len());
-    let s = w.sender;
-    match status::admit(ok, s.ended) {
-        Entry::Closed(why) => refused(w, why),
+    let ended = w.sender.ended;
+    match status::admit(ok, ended) {
+        Entry::Closed(why) => write_record::refused(w, why),
         Entry::Open => {
-            if w.pending {
+            if held_up(w) {
                 WriteStepped {
                     writer: w,
-                    report: Report::Wait,
+                    answer: Answer::Wait,
                 }
             } else {
-                reach(w, sender::next_frame(s, buffer, out))
+                let v = begun(w);
+                let s = v.sender;
+                keep(w, reach(v, sender::next_frame(s, buffer, out)))
             }
         }
     }
 }
 
-// A burst is taken: an answer only lowers the count, and at zero the burst starts.
-fn lowered(mut w: Writer) -> WriteStepped
-    requires { ⌜ 1 ≤ w .sender .unanswered ⌝ }
-    ensures { λ r. ⌜ r ≡ loweredOf w ⌝ }
+// One answer less to come.
+fn less_one(n: u32) -> u32
+    ensures { λ r. ⌜ r ≡ n - 1 ⌝ }
 {
-    let mut s = w.sender;
-    s.unanswered = s.unanswered - 1;
-    if s.unanswered == 0 {
+    if n == 0 { 0 } else { n - 1 }
+}
+
+// A taken burst waits: only the count is left, and at zero the burst starts.
+fn counted(mut w: Writer, n: u32) -> WriteStepped
+    ensures { λ r. ⌜ stepped r ≡ countedOf w n ⌝ }
+{
+    if n == 0 {
         return WriteStepped {
-            writer: write_record::starts(w),
-            report: Report::Taken,
+            writer: start(w),
+            answer: Answer::Taken,
         };
     }
+    let mut s = w.sender;
+    s.unanswered = n;
     w.sender = s;
     WriteStepped {
         writer: w,
-        report: Report::Taken,
+        answer: Answer::Taken,
     }
 }
 
-// A timeout or a cut only clears it.
-fn cleared(w: Writer) -> WriteStepped
-    ensures { λ r. ⌜ r ≡ clearedOf w ⌝ }
-{
-    WriteStepped {
-        writer: write_record::starts(w),
-        report: Report::Taken,
-    }
-}
-
-// 1, 2, then 4.
-fn answerable(w: Writer) -> Entry
-    ensures { λ r. ⌜ r ≡ answerableOf w ⌝ }
+// 1, 2; then the sending port's step, or, while a taken burst waits, the count left.
+fn answered(w: Writer, step: Stepped, n: u32) -> WriteStepped
+    ensures { λ r. ⌜ stepped r ≡ answeredOf w (sender.stepped step) n ⌝ }
 {
     let ok = write_record::writer_holds(w);
-    let s = w.sender;
-    match status::admit(ok, s.ended) {
-        Entry::Closed(why) => Entry::Closed(why),
+    let ended = w.sender.ended;
+    match status::admit(ok, ended) {
+        Entry::Closed(why) => write_record::refused(w, why),
         Entry::Open => {
-            if s.unanswered == 0 {
-                Entry::Closed(Refusal::AnswerWithoutFrame)
+            if held_up(w) {
+                counted(w, n)
             } else {
-                Entry::Open
+                lift(w, step)
             }
         }
     }
 }
 
+// 1, 2, 4; a burst is taken: taken; else taken, delivered, retry, or 28 (a NAK is pending).
 pub fn write_ack_received(w: Writer) -> WriteStepped
-    ensures { λ r. ⌜ r ≡ ackOf w ⌝ }
+    ensures { λ r. ⌜ (stepped r ≡ ackOf w) × Counts w [] (stepped r) ⌝ }
 {
-    match answerable(w) {
-        Entry::Closed(why) => refused(w, why),
-        Entry::Open => {
-            if w.pending {
-                lowered(w)
-            } else {
-                let s = w.sender;
-                lift(w, sender::ack_received(s))
-            }
-        }
-    }
+    let s = w.sender;
+    let n = less_one(s.unanswered);
+    answered(w, sender::ack_received(s), n)
 }
 
+// 1, 2, 4; a burst is taken: taken; else taken, retry, or 28.
 pub fn write_nak_received(w: Writer) -> WriteStepped
-    ensures { λ r. ⌜ r ≡ nakOf w ⌝ }
+    ensures { λ r. ⌜ (stepped r ≡ nakOf w) × Counts w [] (stepped r) ⌝ }
 {
-    match answerable(w) {
-        Entry::Closed(why) => refused(w, why),
-        Entry::Open => {
-            if w.pending {
-                lowered(w)
-            } else {
-                let s = w.sender;
-                lift(w, sender::nak_received(s))
-            }
-        }
-    }
+    let s = w.sender;
+    let n = less_one(s.unanswered);
+    answered(w, sender::nak_received(s), n)
 }
 
+// 1, 2, 4; a burst is taken: taken; else retry, 28 (a NAK is pending) or 29.
 pub fn write_ack_nak_timeout(w: Writer) -> WriteStepped
-    ensures { λ r. ⌜ r ≡ timeoutOf w ⌝ }
+    ensures { λ r. ⌜ (stepped r ≡ timeoutOf w) × Counts w [] (stepped r) ⌝ }
 {
-    match answerable(w) {
-        Entry::Closed(why) => refused(w, why),
-        Entry::Open => {
-            if w.pending {
-                cleared(w)
-            } else {
-                let s = w.sender;
-                lift(w, sender::ack_nak_timeout(s))
-            }
-        }
-    }
+    let s = w.sender;
+    answered(w, sender::ack_nak_timeout(s), 0)
 }
 
+// 1, 2; unchanged; a burst is taken: taken; else retry, 28 (a NAK is pending) or 30.
 pub fn write_connection_lost(w: Writer) -> WriteStepped
-    ensures { λ r. ⌜ r ≡ cutOf w ⌝ }
+    ensures { λ r. ⌜ (stepped r ≡ cutOf w) × Counts w [] (stepped r) ⌝ }
 {
-    let ok = write_record::writer_holds(w);
     let s = w.sender;
-    match status::admit(ok, s.ended) {
-        Entry::Closed(why) => refused(w, why),
-        Entry::Open => {
-            if w.pending & (s.unanswered != 0) {
-                cleared(w)
-            } else {
-                lift(w, sender::connection_lost(s))
-            }
-        }
-    }
+    answered(w, sender::connection_lost(s), 0)
 }
 
+// 1, 2, else 31.
 pub fn write_nexus_lost(w: Writer) -> WriteStepped
-    ensures { λ r. ⌜ r ≡ lossOf w ⌝ }
+    ensures { λ r. ⌜ (stepped r ≡ lossOf w) × Counts w [] (stepped r) ⌝ }
 {
     let ok = write_record::writer_holds(w);
     let s = w.sender;
     match status::admit(ok, s.ended) {
-        Entry::Closed(why) => refused(w, why),
+        Entry::Closed(why) => write_record::refused(w, why),
         Entry::Open => lift(w, sender::nexus_lost(s)),
     }
 }

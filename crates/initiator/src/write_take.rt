@@ -1,90 +1,62 @@
 // Arrivals of any bytes at the initiator of a write command: XFER_RDY and RESPONSE.
 ghost use mathlib.Core.Path.{_≡_};
-ghost use Prim.Native.Nat.{_+_, _^_, _≤_, _<_};
-ghost use lib.ListN.{length, take, drop};
-ghost use Rattle.initiator.specs.WriteTake.{roleOf, refusedBy, endedOf, failedOf, previousBase, previousEnd, allHanded, fitsOf, verdictOf, limitOf, handedOf, burstTaken, xferRdyTaken, responseOf, takenOf, framedOf, arrivedOf};
 ghost use mathlib.Core.Bool.{true};
+ghost use mathlib.Core.List.{[]};
+ghost use Prim.Native.Nat.{_+_, _^_, _≤_, _<_};
+ghost use lib.ListN.{length, take};
+ghost use Rattle.status.specs.Answer.{says};
+ghost use Rattle.status.specs.Number.{failureNumber};
 ghost use Rattle.transfer.specs.Limits.{limitsHold};
-ghost use Rattle.initiator.specs.Role.{takesRead};
-use crate::types::Role;
+ghost use Rattle.initiator.specs.WriteRecord.{stepped};
+ghost use Rattle.initiator.specs.WriteCount.{Counts};
+ghost use Rattle.initiator.specs.WriteTake.{endedOf, failedOf, previous, allHanded, fitsOf, verdictOf, limitOf, askedOf, nextTaken, burstTaken, xferRdyTaken, responseOf, takenOf, writeArrivalOf};
 use crate::types::Verdict;
-use crate::types::WriteAnswer;
-use crate::types::WriteArrived;
+use crate::types::WriteStepped;
 use crate::types::Writer;
 use crate::write_record;
-use frame::Decoded;
+use arrival::Accepted;
+use arrival::Arrived;
+use arrival::Kind;
+use arrival::Role;
 use frame::Header;
 use frame::XferRdy;
 use frame::XferRdyIu;
+use sender::Burst;
+use status::Answer;
 use status::Entry;
 use status::Failure;
 use status::Refusal;
 
-// One match on the type byte: the initiator of a write takes XFER_RDY and RESPONSE; DATA is refused.
-fn role_of(kind: u8) -> Role
-    ensures { λ r. ⌜ r ≡ roleOf kind ⌝ }
-{
-    match kind {
-        0x05 => Role::XferRdy,
-        0x07 => Role::Response,
-        _ => Role::Other,
-    }
-}
-
-fn is_taken(r: Role) -> bool
-    ensures { λ x. ⌜ x ≡ takesRead r ⌝ }
-{
-    match r {
-        Role::Data => true,
-        Role::XferRdy => true,
-        Role::Response => true,
-        Role::Other => false,
-    }
-}
-
-fn refused(w: Writer, why: Refusal) -> WriteArrived
-    ensures { λ r. ⌜ r ≡ refusedBy w why ⌝ }
-{
-    WriteArrived {
-        writer: w,
-        answer: WriteAnswer::Refused(why),
-    }
-}
-
 // The record has ended: nothing is unanswered and no NAK pending.
-fn ended(w: Writer) -> Writer
+fn ended(mut w: Writer) -> Writer
     ensures { λ r. ⌜ r ≡ endedOf w ⌝ }
 {
     let mut s = w.sender;
     s.unanswered = 0;
     s.nak = false;
     s.ended = true;
-    write_record::with_sender(w, s)
+    w.sender = s;
+    w
 }
 
-fn failed(w: Writer, why: Failure) -> WriteArrived
-    ensures { λ r. ⌜ r ≡ failedOf w why ⌝ }
+fn failed(w: Writer, why: Failure) -> WriteStepped
+    ensures { λ r. ⌜ stepped r ≡ failedOf w (failureNumber why) ⌝ }
 {
     let s = w.sender;
-    WriteArrived {
+    WriteStepped {
         writer: ended(w),
-        answer: WriteAnswer::Failed(why, s.frames),
+        answer: Answer::Failed(why, s.frames),
     }
 }
 
 // The previous burst is the last one taken, started or not.
-fn previous_base(w: Writer) -> u32
-    ensures { λ r. ⌜ r ≡ previousBase w ⌝ }
+fn previous(w: Writer) -> Burst
+    ensures { λ r. ⌜ r ≡ previous w ⌝ }
 {
     let s = w.sender;
-    if w.pending { w.base } else { s.base }
-}
-
-fn previous_end(w: Writer) -> u32
-    ensures { λ r. ⌜ r ≡ previousEnd w ⌝ }
-{
-    let s = w.sender;
-    if w.pending { w.end } else { s.end }
+    let b = s.burst;
+    let n = w.taken;
+    if w.pending { n } else { b }
 }
 
 // Every frame of it was handed out at least once.
@@ -92,23 +64,25 @@ fn all_handed(w: Writer) -> bool
     ensures { λ r. ⌜ r ≡ allHanded w ⌝ }
 {
     let s = w.sender;
+    let b = s.burst;
+    let n = w.taken;
     if w.pending {
-        w.base == w.end
+        n.base == n.end
     } else {
-        w.reached == s.end
+        w.reached == b.end
     }
 }
 
-// 25.
-fn fits(w: Writer, x: XferRdy) -> Verdict
-    ensures { λ r. ⌜ r ≡ fitsOf w x ⌝ }
+// 25, else the verdict v.
+fn fits(w: Writer, x: XferRdy, v: Verdict) -> Verdict
+    ensures { λ r. ⌜ r ≡ fitsOf w x v ⌝ }
 {
     let t = w.sender.transfer;
     let past = (x.offset as u64) + (x.len as u64);
     if (x.len == 0) | ((t.count as u64) < past) {
         Verdict::Fail(Failure::XferRdyIncorrectWriteDataLength)
     } else {
-        Verdict::Take
+        v
     }
 }
 
@@ -116,15 +90,14 @@ fn fits(w: Writer, x: XferRdy) -> Verdict
 fn judge(w: Writer, x: XferRdy, retransmit: bool) -> Verdict
     ensures { λ r. ⌜ r ≡ verdictOf w x retransmit ⌝ }
 {
-    let base = previous_base(w);
-    let end = previous_end(w);
+    let p = previous(w);
     let all = all_handed(w);
-    if retransmit & (x.offset == base) {
-        return fits(w, x);
+    if retransmit & (x.offset == p.base) & (p.base < p.end) {
+        return fits(w, x, Verdict::Repeat);
     }
-    if x.offset == end {
+    if x.offset == p.end {
         if all {
-            return fits(w, x);
+            return fits(w, x, Verdict::Next);
         }
         return Verdict::Fail(Failure::XferRdyNotExpected);
     }
@@ -139,41 +112,58 @@ fn limit(w: Writer, retry: bool) -> u32
     if retry { t.limit } else { 0 }
 }
 
-// The frames that the burst before it handed out.
-fn handed(w: Writer) -> u64
-    ensures { λ r. ⌜ r ≡ handedOf w ⌝ }
-{
-    let s = w.sender;
-    if w.pending { 0 } else { s.frames }
-}
-
-// The new burst starts once nothing is unanswered.
-fn taken(w: Writer, h: Header, x: XferRdy) -> WriteArrived
+// The burst that the XFER_RDY asks for.
+fn asked(w: Writer, h: Header, x: XferRdy) -> Burst
     requires { ⌜ x .offset + x .len < 2 ^ 32 ⌝ }
-    ensures { λ r. ⌜ r ≡ burstTaken w h x ⌝ }
+    ensures { λ r. ⌜ r ≡ askedOf w h x ⌝ }
 {
     let flags = h.flags;
     let limit = limit(w, flags.retry);
-    let frames = handed(w);
-    let end = x.offset + x.len;
+    Burst {
+        base: x.offset,
+        end: x.offset + x.len,
+        tptt: h.tptt,
+        limit: limit,
+    }
+}
+
+// The burst before counts as delivered, with its count where that was not reported before.
+fn next_taken(w: Writer) -> Answer
+    ensures { λ r. ⌜ says r ≡ nextTaken w ⌝ }
+{
+    let s = w.sender;
+    let b = s.burst;
+    if (s.unanswered == 0) & (s.next == b.end) {
+        Answer::NextBurst
+    } else {
+        Answer::NextBurstDelivers(s.frames)
+    }
+}
+
+// The new burst starts once nothing is unanswered.
+fn taken(mut w: Writer, b: Burst, a: Answer) -> WriteStepped
+    ensures { λ r. ⌜ stepped r ≡ burstTaken w b (says a) ⌝ }
+{
     let s = w.sender;
     if s.unanswered == 0 {
-        WriteArrived {
-            writer: write_record::started(w, x.offset, end, h.tptt, limit),
-            answer: WriteAnswer::XferRdy(frames),
-        }
-    } else {
-        WriteArrived {
-            writer: write_record::pending(w, x.offset, end, h.tptt, limit),
-            answer: WriteAnswer::XferRdy(frames),
-        }
+        let t = s.transfer;
+        return WriteStepped {
+            writer: write_record::begin(t, b),
+            answer: a,
+        };
+    }
+    w.pending = true;
+    w.taken = b;
+    WriteStepped {
+        writer: w,
+        answer: a,
     }
 }
 
 // 23, 24, 27, 26, 25, else taken.
-fn xfer_rdy(w: Writer, h: Header, iu: &[u8]) -> WriteArrived
+fn xfer_rdy(w: Writer, h: Header, iu: &[u8]) -> WriteStepped
     requires { ⌜ limitsHold (w .sender .transfer) ≡ true ⌝ }
-    ensures { λ r. ⌜ r ≡ xferRdyTaken w h (now (iu .entry)) ⌝ }
+    ensures { λ r. ⌜ stepped r ≡ xferRdyTaken w h (now (iu .entry)) ⌝ }
 {
     match frame::read_xfer_rdy(iu) {
         XferRdyIu::Failed(why) => failed(w, why),
@@ -181,67 +171,60 @@ fn xfer_rdy(w: Writer, h: Header, iu: &[u8]) -> WriteArrived
             let flags = h.flags;
             match judge(w, x, flags.retransmit) {
                 Verdict::Fail(why) => failed(w, why),
-                Verdict::Take => taken(w, h, x),
+                Verdict::Next => taken(w, asked(w, h, x), next_taken(w)),
+                Verdict::Repeat => taken(w, asked(w, h, x), Answer::Repeated),
             }
         }
     }
 }
 
 // A RESPONSE: 32 under 24 bytes, else the command has ended.
-fn response(w: Writer, start: usize, len: usize) -> WriteArrived
-    ensures { λ r. ⌜ r ≡ responseOf w start len ⌝ }
+fn response(w: Writer, start: usize, len: usize) -> WriteStepped
+    ensures { λ r. ⌜ stepped r ≡ responseOf w start len ⌝ }
 {
     if len < 24 {
         return failed(w, Failure::ResponseTooShort);
     }
-    WriteArrived {
+    let s = w.sender;
+    WriteStepped {
         writer: ended(w),
-        answer: WriteAnswer::Response {
+        answer: Answer::Response {
             start: start,
             len: len,
+            frames: s.frames,
         },
     }
 }
 
 // A frame that has passed 5 to 8.
-fn take(w: Writer, role: Role, h: Header, start: usize, len: usize, bytes: &[u8]) -> WriteArrived
-    requires { ⌜ (start + len ≤ length (now bytes)) × (limitsHold (w .sender .transfer) ≡ true) ⌝ }
-    ensures { λ r. ⌜ r ≡ takenOf role w h start len (now (bytes .entry)) ⌝ }
+fn take(w: Writer, a: Arrived, bytes: &[u8]) -> WriteStepped
+    requires { ⌜ (a .start + a .len ≤ length (now bytes)) × (limitsHold (w .sender .transfer) ≡ true) ⌝ }
+    ensures { λ r. ⌜ stepped r ≡ takenOf (a .kind) w a (now (bytes .entry)) ⌝ }
 {
-    let past = start + len;
-    match role {
-        Role::XferRdy => xfer_rdy(w, h, &bytes[start..past]),
-        Role::Response => response(w, start, len),
-        Role::Data => refused(w, Refusal::UnexpectedFrameType),
-        Role::Other => refused(w, Refusal::UnexpectedFrameType),
+    let kind = a.kind;
+    let h = a.header;
+    let start = a.start;
+    let past = start + a.len;
+    match kind {
+        Kind::XferRdy => xfer_rdy(w, h, &bytes[start..past]),
+        Kind::Response => response(w, start, a.len),
+        Kind::Data => write_record::refused(w, Refusal::UnexpectedFrameType),
+        Kind::Other => write_record::refused(w, Refusal::UnexpectedFrameType),
     }
 }
 
-// Any bytes: 5, 6, 7, 8, then by type.
-fn framed(w: Writer, bytes: &[u8]) -> WriteArrived
-    requires { ⌜ limitsHold (w .sender .transfer) ≡ true ⌝ }
-    ensures { λ r. ⌜ r ≡ framedOf w (now (bytes .entry)) ⌝ }
-{
-    match frame::read(bytes) {
-        Decoded::Refused(why) => refused(w, why),
-        Decoded::Frame { header, start, len } => {
-            let role = role_of(header.kind);
-            let t = w.sender.transfer;
-            match arrival::screen(t, header, is_taken(role)) {
-                Entry::Closed(why) => refused(w, why),
-                Entry::Open => take(w, role, header, start, len, bytes),
-            }
-        }
-    }
-}
-
-pub fn write_frame_received(w: Writer, bytes: &[u8]) -> WriteArrived
-    ensures { λ r. ⌜ r ≡ arrivedOf w (now (bytes .entry)) ⌝ }
+// 1, 2, 5, 6, 7, 8; XFER_RDY 23, 24, 27, 26, 25, else which burst it is for; RESPONSE 32, else where its IU stands.
+pub fn write_frame_received(w: Writer, bytes: &[u8]) -> WriteStepped
+    ensures { λ r. ⌜ (stepped r ≡ writeArrivalOf w (now (bytes .entry))) × Counts w [] (stepped r) ⌝ }
 {
     let ok = write_record::writer_holds(w);
     let s = w.sender;
+    let t = s.transfer;
     match status::admit(ok, s.ended) {
-        Entry::Closed(why) => refused(w, why),
-        Entry::Open => framed(w, bytes),
+        Entry::Closed(why) => write_record::refused(w, why),
+        Entry::Open => match arrival::accept(Role::WriteInitiator, t, bytes) {
+            Accepted::Refused(why) => write_record::refused(w, why),
+            Accepted::Frame(a) => take(w, a, bytes),
+        },
     }
 }

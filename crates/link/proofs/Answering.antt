@@ -10,18 +10,19 @@ use lib.ListN.{length}
 use Rattle.status.specs.Pick.{pick}
 use Rattle.sender.specs.Answer.{loweredOf, movedOf, deliveredOf}
 use Rattle.sender.specs.declared.types.Sender.{Sender}
-use Rattle.sender.specs.declared.types.Stepped.{Stepped}
 use Rattle.sender.proofs.Held.{held}
 use Rattle.sender.proofs.Kept.{lowered-holds, moved-holds, delivered-holds}
 use Rattle.sender.proofs.Views.{Settled, acked, naked}
 use Rattle.receiver.proofs.Held as receiver
-use Rattle.link.specs.Ports.{Told, Left, Signal, Ports, tells}
-use Rattle.link.specs.World.{World, Answer, Report, Event, noted, sends, answers, losesAnswer, answerFault, step}
+use Rattle.status.specs.Answer.{Said, Left}
+use Rattle.link.specs.Ports.{Signal, Ports}
+use Rattle.link.specs.Tally.{Answer, answerFault}
+use Rattle.link.specs.World.{World, Report, Event, noted, answers, losesAnswer, step}
 use Rattle.link.proofs.Grid.{at-most, at-mono, inside-at}
 use Rattle.link.proofs.Setting.{Setting, place, within, enough, piece, sized}
-use Rattle.link.proofs.Simulates.{Simulates, OnLink}
+use Rattle.link.proofs.Simulates.{Simulates}
 use Rattle.link.proofs.Flight.{Flight, landed, AllAck, SomeNak}
-use Rattle.link.proofs.Invariant.{Stored, Marked, Linked, Pending, Counted, Standing, InStep, Ported, Live, Done, Reported, Inv}
+use Rattle.link.proofs.Invariant.{Stored, Marked, Linked, Pending, Counted, Standing, InStep, Ported, Live, Done, Reported, Inv, ported-as, live, done}
 use Rattle.link.proofs.Numbers.{j-most, within-bound, retries-most}
 use Rattle.link.proofs.Asking.{outcome}
 use Rattle.link.proofs.Retrying.{emptied, retried-keeps}
@@ -44,26 +45,16 @@ module _ {P : Ports} (S : Setting) (M : Simulates P (S .tptt)) (w : World P) (l 
         received = w .received;
         frames = w .frames;
         answers = rest;
-        unanswered = w .unanswered - 1;
-        lost = w .lost;
-        faults = w .faults;
+        tally = record { unanswered = w .tally .unanswered - 1; lost = w .tally .lost; faults = w .tally .faults };
         handed = w .handed;
         report = q;
       }
 
-  module _ (rest : List Answer) (nak : Bool) (n : length (w .frames) + length rest + w .lost ≡ s .unanswered - 1) (some : 0 < s .unanswered)
-      (st : Standing S rest nak (w .lost) c k (r .waiting) (r .expected) (r .filled) R (w .faults)) (y : P .Sending) where
+  module _ (rest : List Answer) (nak : Bool) (n : length (w .frames) + length rest + w .tally .lost ≡ s .unanswered - 1) (some : 0 < s .unanswered)
+      (st : Standing S rest nak (w .tally .lost) c k (r .waiting) (r .expected) (r .filled) R (w .tally .faults)) (y : P .Sending) where
     ported′ : Ported S M (w .receiving) (loweredOf s nak) r
     ported′ =
-        record {
-          takes = ported .takes;
-          send-for = ported .send-for;
-          take-for = ported .take-for;
-          s-holds = lowered-holds s (held s (ported .s-holds)) nak;
-          s-open = ported .s-open;
-          r-holds = ported .r-holds;
-          r-open = ported .r-open;
-        }
+        ported-as S M ported (ported .send-for) (lowered-holds s (held s (ported .s-holds)) nak) (ported .s-open)
 
     -- at zero the link is empty
     module _ (z : s .unanswered - 1 ≡ 0) where
@@ -73,13 +64,13 @@ module _ {P : Ports} (S : Setting) (M : Simulates P (S .tptt)) (w : World P) (l 
       no-answers : rest ≡ []
       no-answers = empty rest (omega arith)
 
-      none-lost : w .lost ≡ 0
+      none-lost : w .tally .lost ≡ 0
       none-lost = omega arith
 
-      none-open : w .unanswered - 1 ≡ 0
+      none-open : w .tally .unanswered - 1 ≡ 0
       none-open = omega (arith, linked .same)
 
-      as-emptied : (q : Report) → emptied w y (w .faults) q ≡ lowered rest y q
+      as-emptied : (q : Report) → emptied w y (w .tally .faults) q ≡ lowered rest y q
       as-emptied q i =
           record {
             sending = y;
@@ -88,9 +79,7 @@ module _ {P : Ports} (S : Setting) (M : Simulates P (S .tptt)) (w : World P) (l 
             received = w .received;
             frames = sym no-frames i;
             answers = sym no-answers i;
-            unanswered = sym none-open i;
-            lost = sym none-lost i;
-            faults = w .faults;
+            tally = record { unanswered = sym none-open i; lost = sym none-lost i; faults = w .tally .faults };
             handed = w .handed;
             report = q;
           }
@@ -106,7 +95,7 @@ module _ {P : Ports} (S : Setting) (M : Simulates P (S .tptt)) (w : World P) (l 
         in-step : InStep S c k (r .waiting) (r .expected) (r .filled)
         in-step = go st
           where
-            go : Standing S rest nak (w .lost) c k (r .waiting) (r .expected) (r .filled) R (w .faults) → InStep S c k (r .waiting) (r .expected) (r .filled)
+            go : Standing S rest nak (w .tally .lost) c k (r .waiting) (r .expected) (r .filled) R (w .tally .faults) → InStep S c k (r .waiting) (r .expected) (r .filled)
             go (Standing.clean a b d i) = i
             go (Standing.dirty (inl h) p) = absurd (subst SomeNak no-answers h)
             go (Standing.dirty (inr (inl h)) p) = absurd (false≢true (sym quiet ∙ h))
@@ -123,55 +112,21 @@ module _ {P : Ports} (S : Setting) (M : Simulates P (S .tptt)) (w : World P) (l 
                 let p : r .expected ≡ place S j = e .1 ∙ ap (place S) (at-next .1) in
                 omega (arith, h .expected-filled)
 
-        still-clean : Standing S rest nak (w .lost) c k (r .waiting) (r .expected) (r .filled) R (w .faults)
+        still-clean : Standing S rest nak (w .tally .lost) c k (r .waiting) (r .expected) (r .filled) R (w .tally .faults)
         still-clean = Standing.clean (subst AllAck (sym no-answers) tt) quiet none-lost in-step
 
         -- the balance point is frame m′ now
-        module _ (unfinished : s .next ≡ s .end → ⊥) (h : M .SendsAs y (movedOf (loweredOf s nak))) where
+        module _ (unfinished : s .next ≡ s .burst .end → ⊥) (h : M .SendsAs y (movedOf (loweredOf s nak))) where
           moved-live : (m′ : ℕ) → movedOf (loweredOf s nak) .balance ≡ place S m′ → within S m′ → (s .transfer .write ≡ true → m′ ≡ 0) → m′ ≤ k → place S m′ ≤ r .filled →
               movedOf (loweredOf s nak) .retries ≤ R → R ≤ S .limit * m′ + movedOf (loweredOf s nak) .retries → Inv S M (lowered rest y (w .report))
           moved-live m′ at inside write from reach since ever =
               inl
-              (record {
-                s = movedOf (loweredOf s nak);
-                r = r;
-                c = c;
-                k = k;
-                m = m′;
-                j = j;
-                R = R;
-                sends = h;
-                ported =
-                    record {
-                      takes = ported .takes;
-                      send-for = ported .send-for;
-                      take-for = ported .take-for;
-                      s-holds = moved-holds (loweredOf s nak) (held (loweredOf s nak) (ported′ .s-holds));
-                      s-open = ported .s-open;
-                      r-holds = ported .r-holds;
-                      r-open = ported .r-open;
-                    };
-                stored = stored;
-                reached = reach;
-                marked = record { next-at = marked .next-at; balance-at = at; restart-in = inside; all-in = marked .all-in; from-base = write };
-                linked =
-                    record {
-                      flight = linked .flight;
-                      pointed = λ q. absurd (false≢true (sym (at-next .0) ∙ q));
-                      from = from;
-                      conserved = n;
-                      same = ap (λ (v : ℕ). v - 1) (linked .same);
-                    };
-                pending =
-                    record {
-                      nak-owed = λ q. absurd (false≢true (sym quiet ∙ q));
-                      begun = λ q. absurd (omega arith);
-                      undone = λ q e. unfinished (e ∙ sym (ported .send-for .end));
-                    };
-                counted = record { frames-are = counted .frames-are; most = counted .most; since = since; ever = ever; paid = counted .paid };
-                standing = still-clean;
-                silent = silent;
-              })
+              (live S M (movedOf (loweredOf s nak)) r c k m′ j R h
+              (ported-as S M ported (ported .send-for) (moved-holds (loweredOf s nak) (held (loweredOf s nak) (ported′ .s-holds))) (ported .s-open))
+              stored reach (record { next-at = marked .next-at; balance-at = at; restart-in = inside; all-in = marked .all-in; from-base = write })
+              (record { flight = linked .flight; pointed = λ q. absurd (false≢true (sym (at-next .0) ∙ q)); from = from; conserved = n; same = ap (λ (v : ℕ). v - 1) (linked .same) })
+              (record { nak-owed = λ q. absurd (false≢true (sym quiet ∙ q)); begun = λ q. absurd (omega arith); undone = λ q e. unfinished (e ∙ sym (ported .send-for .end)) })
+              (record { frames-are = counted .frames-are; most = counted .most; since = since; ever = ever; paid = counted .paid }) still-clean silent)
 
           moves : Inv S M (lowered rest y (w .report))
           unfolding pick
@@ -192,95 +147,66 @@ module _ {P : Ports} (S : Setting) (M : Simulates P (S .tptt)) (w : World P) (l 
                   moved-live j (b ∙ marked .next-at) inside (λ v. absurd (false≢true (sym e ∙ v))) (omega (arith, at-next .1)) all-there (omega arith)
                   (omega (arith, counted .ever, mul-suc (S .limit) m))
 
-        delivers : s .next ≡ s .end → M .SendsAs y (deliveredOf (loweredOf s nak) .sender) → Inv S M (lowered rest y (Report.delivered (s .frames)))
-        delivers done h =
-            let to-end : place S j ≡ S .end = sym (marked .next-at) ∙ done ∙ ported .send-for .end in
+        delivers : s .next ≡ s .burst .end → M .SendsAs y (deliveredOf (loweredOf s nak)) → Inv S M (lowered rest y (Report.delivered (s .frames)))
+        delivers at-end h =
+            let to-end : place S j ≡ S .end = sym (marked .next-at) ∙ at-end ∙ ported .send-for .end in
             let f = receiver.held r (ported .r-holds) .filled-end in
             let re = ported .take-for .end in
             inr
-            (record {
-              s = deliveredOf (loweredOf s nak) .sender;
-              sends = h;
-              send-for = ported .send-for;
-              s-holds = delivered-holds (loweredOf s nak) (held (loweredOf s nak) (ported′ .s-holds));
-              rests = rests (s .transfer .write) refl;
-              no-frames = no-frames;
-              no-answers = no-answers;
-              none-open = none-open;
-              source = stored .source;
-              size = stored .size;
-              rest = λ i. ⊎-elim (λ q. stored .rest i (inl q)) (λ q. stored .rest i (inr (omega arith)));
-              bounded = within-bound S counted (j-most S j (marked .all-in));
-              reported =
-                  subst (λ (v : ℕ). Reported S M (w .received) (w .handed) (w .faults) (Report.delivered v)) (sym (counted .frames-are))
-                  (Reported.delivers (λ i lo hi. stored .right i lo (omega (arith, all-there))));
-            })
+            (done S M (deliveredOf (loweredOf s nak)) h (ported .send-for) (delivered-holds (loweredOf s nak) (held (loweredOf s nak) (ported′ .s-holds)))
+            (rests (s .transfer .write) refl) no-frames no-answers none-open (stored .source) (stored .size)
+            (λ i. ⊎-elim (λ q. stored .rest i (inl q)) (λ q. stored .rest i (inr (omega arith)))) (within-bound S counted (j-most S j (marked .all-in)))
+            (subst (λ (v : ℕ). Reported S M (w .received) (w .handed) (w .tally .faults) (Report.delivered v)) (sym (counted .frames-are)) (Reported.delivers (λ i lo hi. stored .right i lo (omega (arith, all-there))))))
           where
-            rests : (t : Bool) → s .transfer .write ≡ t → (not (s .transfer .write) ≡ true) ⊎ ((not (s .transfer .write) ≡ false) × (s .unanswered - 1 ≡ 0) × (s .next ≡ s .end))
-            rests true e = inr (ap not e, z, done)
+            rests : (t : Bool) → s .transfer .write ≡ t → (not (s .transfer .write) ≡ true) ⊎ ((not (s .transfer .write) ≡ false) × (s .unanswered - 1 ≡ 0) × (s .next ≡ s .burst .end))
+            rests true e = inr (ap not e, z, at-end)
             rests false e = inl (ap not e)
 
     -- some are still unanswered
     more : (s .unanswered - 1 ≡ 0 → ⊥) → M .SendsAs y (loweredOf s nak) → Inv S M (lowered rest y (w .report))
     more left h =
         inl
-        (record {
-          s = loweredOf s nak;
-          r = r;
-          c = c;
-          k = k;
-          m = m;
-          j = j;
-          R = R;
-          sends = h;
-          ported = ported′;
-          stored = stored;
-          reached = reached;
-          marked = marked;
-          linked = record { flight = linked .flight; pointed = linked .pointed; from = linked .from; conserved = n; same = ap (λ (v : ℕ). v - 1) (linked .same) };
-          pending = record { nak-owed = λ q. omega arith; begun = λ q. pending .begun some; undone = λ q. absurd (left q) };
-          counted = counted;
-          standing = st;
-          silent = silent;
-        })
+        (live S M (loweredOf s nak) r c k m j R h ported′ stored reached marked
+        (record { flight = linked .flight; pointed = linked .pointed; from = linked .from; conserved = n; same = ap (λ (v : ℕ). v - 1) (linked .same) })
+        (record { nak-owed = λ q. omega arith; begun = λ q. pending .begun some; undone = λ q. absurd (left q) }) counted st silent)
 
     -- a retry for a NAK is paid for: the attempt was not clean
-    owed : nak ≡ true → R < w .faults
+    owed : nak ≡ true → R < w .tally .faults
     owed e = go st
       where
-        go : Standing S rest nak (w .lost) c k (r .waiting) (r .expected) (r .filled) R (w .faults) → R < w .faults
+        go : Standing S rest nak (w .tally .lost) c k (r .waiting) (r .expected) (r .filled) R (w .tally .faults) → R < w .tally .faults
         go (Standing.clean a b d i) = absurd (false≢true (sym b ∙ e))
         go (Standing.dirty h p) = p
 
-    settle-keeps : {z : Stepped} → Settled (loweredOf s nak) z → M .SendsAs y (z .sender) → Inv S M (lowered rest y (noted (tells (z .report)) (w .report)))
+    settle-keeps : {z : Left Sender} → Settled (loweredOf s nak) z → M .SendsAs y (z .left) → Inv S M (lowered rest y (noted (z .says) (w .report)))
     settle-keeps (Settled.more left) h = more left h
     settle-keeps (Settled.retries z e {x} v) h =
-        subst (Inv S M) (as-emptied z (noted (tells (x .report)) (w .report)))
-        (retried-keeps S M w y (w .faults) (loweredOf s nak) r m j R ported′ stored reached marked counted silent (owed e) (omega arith) _ (omega arith) (omega arith) v h)
+        subst (Inv S M) (as-emptied z (noted (x .says) (w .report)))
+        (retried-keeps S M w y (w .tally .faults) (loweredOf s nak) r m j R ported′ stored reached marked counted silent (owed e) (omega arith) _ (omega arith) (omega arith) v h)
     settle-keeps (Settled.moves z q u) h = moves z q u h
-    settle-keeps (Settled.delivers z q d) h = delivers z q d h
+    settle-keeps (Settled.delivers z q d) h = rw silent (delivers z q d h)
 
-  unreported : {rest : List Answer} (x : Left (P .Sending)) {t : Told} → x .told ≡ t → Inv S M (lowered rest (x .left) (noted t (w .report))) → Inv S M (lowered rest (x .left) (noted (x .told) (w .report)))
-  unreported {rest} x e h = subst (λ (v : Told). Inv S M (lowered rest (x .left) (noted v (w .report)))) (sym e) h
+  unreported : {rest : List Answer} (x : Left (P .Sending)) {t : Said} → x .says ≡ t → Inv S M (lowered rest (x .left) (noted t (w .report))) → Inv S M (lowered rest (x .left) (noted (x .says) (w .report)))
+  unreported {rest} x e h = subst (λ (v : Said). Inv S M (lowered rest (x .left) (noted v (w .report)))) (sym e) h
 
   -- the first answer reaches the port
-  reaching : (a : List Answer) → length (w .frames) + length a + w .lost ≡ s .unanswered → Standing S a (s .nak) (w .lost) c k (r .waiting) (r .expected) (r .filled) R (w .faults) → Inv S M (answers w a)
+  reaching : (a : List Answer) → length (w .frames) + length a + w .tally .lost ≡ s .unanswered → Standing S a (s .nak) (w .tally .lost) c k (r .waiting) (r .expected) (r .filled) R (w .tally .faults) → Inv S M (answers w a)
   reaching [] n g = inl l
   reaching (Answer.ack ∷ rest) n g =
-      let a = M .signals-as Signal.ack OnLink.ack (w .sending) s (l .sends) (ported .s-holds) in
+      let a = M .signals-as Signal.ack (w .sending) s (l .sends) (ported .s-holds) in
       unreported (P .signal Signal.ack (w .sending)) (a .1)
       (settle-keeps rest (s .nak) (omega arith) (omega arith) (go g) _ (acked s (ported .s-holds) (ported .s-open) (λ e. omega arith)) (a .0))
     where
-      go : Standing S (Answer.ack ∷ rest) (s .nak) (w .lost) c k (r .waiting) (r .expected) (r .filled) R (w .faults) → Standing S rest (s .nak) (w .lost) c k (r .waiting) (r .expected) (r .filled) R (w .faults)
+      go : Standing S (Answer.ack ∷ rest) (s .nak) (w .tally .lost) c k (r .waiting) (r .expected) (r .filled) R (w .tally .faults) → Standing S rest (s .nak) (w .tally .lost) c k (r .waiting) (r .expected) (r .filled) R (w .tally .faults)
       go (Standing.clean a b d i) = Standing.clean a b d i
       go (Standing.dirty (inl h) p) = Standing.dirty (inl h) p
       go (Standing.dirty (inr h) p) = Standing.dirty (inr h) p
   reaching (Answer.nak ∷ rest) n g =
-      let a = M .signals-as Signal.nak OnLink.nak (w .sending) s (l .sends) (ported .s-holds) in
+      let a = M .signals-as Signal.nak (w .sending) s (l .sends) (ported .s-holds) in
       unreported (P .signal Signal.nak (w .sending)) (a .1)
       (settle-keeps rest true (omega arith) (omega arith) (go g) _ (naked s (ported .s-holds) (ported .s-open) (λ e. omega arith)) (a .0))
     where
-      go : Standing S (Answer.nak ∷ rest) (s .nak) (w .lost) c k (r .waiting) (r .expected) (r .filled) R (w .faults) → Standing S rest true (w .lost) c k (r .waiting) (r .expected) (r .filled) R (w .faults)
+      go : Standing S (Answer.nak ∷ rest) (s .nak) (w .tally .lost) c k (r .waiting) (r .expected) (r .filled) R (w .tally .faults) → Standing S rest true (w .tally .lost) c k (r .waiting) (r .expected) (r .filled) R (w .tally .faults)
       go (Standing.clean a b d i) = absurd a
       go (Standing.dirty h p) = Standing.dirty (inr (inl refl)) p
 
@@ -288,31 +214,16 @@ module _ {P : Ports} (S : Setting) (M : Simulates P (S .tptt)) (w : World P) (l 
   answering = reaching (w .answers) (linked .conserved) standing
 
   -- the first answer is lost: a fault, unless its frame was counted when it was damaged
-  missing : (a : List Answer) → length (w .frames) + length a + w .lost ≡ s .unanswered → Standing S a (s .nak) (w .lost) c k (r .waiting) (r .expected) (r .filled) R (w .faults) → Inv S M (losesAnswer w a)
+  missing : (a : List Answer) → length (w .frames) + length a + w .tally .lost ≡ s .unanswered → Standing S a (s .nak) (w .tally .lost) c k (r .waiting) (r .expected) (r .filled) R (w .tally .faults) → Inv S M (losesAnswer w a)
   missing [] n g = inl l
   missing (a ∷ rest) n g =
       inl
-      (record {
-        s = s;
-        r = r;
-        c = c;
-        k = k;
-        m = m;
-        j = j;
-        R = R;
-        sends = l .sends;
-        ported = ported;
-        stored = stored;
-        reached = reached;
-        marked = marked;
-        linked = record { flight = linked .flight; pointed = linked .pointed; from = linked .from; conserved = omega arith; same = linked .same };
-        pending = pending;
-        counted = record { frames-are = counted .frames-are; most = counted .most; since = counted .since; ever = counted .ever; paid = omega (arith, counted .paid) };
-        standing = Standing.dirty (inr (inr (omega arith))) (charged a g);
-        silent = silent;
-      })
+      (live S M s r c k m j R (l .sends) ported stored reached marked
+      (record { flight = linked .flight; pointed = linked .pointed; from = linked .from; conserved = omega arith; same = linked .same }) pending
+      (record { frames-are = counted .frames-are; most = counted .most; since = counted .since; ever = counted .ever; paid = omega (arith, counted .paid) })
+      (Standing.dirty (inr (inr (omega arith))) (charged a g)) silent)
     where
-      charged : (b : Answer) → Standing S (b ∷ rest) (s .nak) (w .lost) c k (r .waiting) (r .expected) (r .filled) R (w .faults) → R < w .faults + answerFault b
+      charged : (b : Answer) → Standing S (b ∷ rest) (s .nak) (w .tally .lost) c k (r .waiting) (r .expected) (r .filled) R (w .tally .faults) → R < w .tally .faults + answerFault b
       charged Answer.ack v = omega (arith, counted .paid)
       charged Answer.nak (Standing.clean q b d i) = absurd q
       charged Answer.nak (Standing.dirty h p) = omega arith

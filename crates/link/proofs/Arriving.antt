@@ -12,21 +12,23 @@ use Rattle.transfer.specs.declared.Transfer.{Transfer}
 use Rattle.frame.specs.Format.{encode}
 use Rattle.frame.specs.Write.{placed}
 use Rattle.receiver.specs.Record.{holdsOf}
-use Rattle.receiver.specs.Arrival.{lentOf, waitingOf, storedOf, arrivalOf, after}
+use Rattle.status.specs.Answer.{Said, Left}
+use Rattle.receiver.specs.DataFrame.{lentOf, waitingOf, storedOf, arrivalOf, storing}
 use Rattle.receiver.specs.declared.types.Receiver.{Receiver}
-use Rattle.receiver.specs.declared.types.Received.{Received as Result}
 use Rattle.receiver.proofs.Held.{Held, held, lent-again}
 use Rattle.receiver.proofs.Judged as judged
 use Rattle.receiver.proofs.Buffer.{put-down, placed-length}
-use Rattle.receiver.proofs.Views.{Kept, waiting-holds, stored-holds, never-fails, reaches}
+use Rattle.receiver.proofs.Kept.{waiting-holds, stored-holds}
+use Rattle.receiver.proofs.Views.{Kept, never-fails, reaches}
 use Rattle.link.specs.Ports.{Ports}
-use Rattle.link.specs.World.{World, Answer, Event, arrivesWhole, arrivesDamaged, losesFrame, step}
+use Rattle.link.specs.Tally.{Answer}
+use Rattle.link.specs.World.{World, Event, arrivesWhole, arrivesDamaged, losesFrame, step}
 use Rattle.link.proofs.Grid.{at-next, at-least, at-below, room-some, room-fits}
 use Rattle.link.proofs.Setting.{Setting, Takes, place, within, space, header, data-of, data-length, in-range, can-write, piece, sized}
 use Rattle.link.proofs.Simulates.{Simulates, Addressed}
 use Rattle.link.proofs.Flight.{Flight, uncons, ordered, AllAck, SomeNak, ack-joins, nak-stays, nak-joins}
 use Rattle.link.proofs.Placed.{placed-under, placed-in, placed-over}
-use Rattle.link.proofs.Invariant.{Stored, Linked, Counted, Standing, InStep, Dirty, Ported, Live, Inv}
+use Rattle.link.proofs.Invariant.{Stored, Linked, Counted, Standing, InStep, Dirty, Ported, Live, Inv, live}
 
 -- the two orders of two numbers
 pub by-lt : (a b : ℕ) → (a < b) ⊎ (b ≤ a)
@@ -40,18 +42,18 @@ module _ {P : Ports} (S : Setting) (M : Simulates P (S .tptt)) (w : World P) (l 
   open Live l using (s, r, c, k, m, j, R, sends, ported, stored, reached, marked, linked, pending, counted, standing, silent)
 
   -- the first frame on the way is frame k, the rest follows
-  module _ (fs : List (List ℕ)) (x : Flight (piece S) false (suc k) (s .cdp) j fs) (n : suc (length fs) + length (w .answers) + w .lost ≡ s .unanswered) where
+  module _ (fs : List (List ℕ)) (x : Flight (piece S) false (suc k) (s .cdp) j fs) (n : suc (length fs) + length (w .answers) + w .tally .lost ≡ s .unanswered) where
     first-in : within S k
     first-in = marked .all-in k (ordered x)
 
     -- one frame less, one answer or loss more
-    unlinked : (a : List Answer) (lost : ℕ) → length a + lost ≡ suc (length (w .answers) + w .lost) → Linked S fs a (w .unanswered) lost (s .unanswered) (s .cdp) false (suc k) m j
+    unlinked : (a : List Answer) (lost : ℕ) → length a + lost ≡ suc (length (w .answers) + w .tally .lost) → Linked S fs a (w .tally .unanswered) lost (s .unanswered) (s .cdp) false (suc k) m j
     unlinked a lost e =
         let f = linked .from in
         record { flight = x; pointed = λ q. absurd (false≢true q); from = omega arith; conserved = omega arith; same = linked .same }
 
     -- a fault more
-    faulted : Counted S (s .frames) (s .retries) (w .handed) (w .faults + 1) R m j
+    faulted : Counted S (s .frames) (s .retries) (w .handed) (w .tally .faults + 1) R m j
     faulted =
         let p = counted .paid in
         record { frames-are = counted .frames-are; most = counted .most; since = counted .since; ever = counted .ever; paid = omega arith }
@@ -61,49 +63,15 @@ module _ {P : Ports} (S : Setting) (M : Simulates P (S .tptt)) (w : World P) (l 
         let p = counted .paid in
         let a = length-append (w .answers) (Answer.nak ∷ []) in
         inl
-        (record {
-          s = s;
-          r = r;
-          c = false;
-          k = suc k;
-          m = m;
-          j = j;
-          R = R;
-          sends = sends;
-          ported = ported;
-          stored = stored;
-          reached = reached;
-          marked = marked;
-          linked = unlinked (w .answers ++ (Answer.nak ∷ [])) (w .lost) (omega arith);
-          pending = pending;
-          counted = faulted;
-          standing = Standing.dirty (inl (nak-joins (w .answers))) (omega arith);
-          silent = silent;
-        })
+        (live S M s r false (suc k) m j R sends ported stored reached marked (unlinked (w .answers ++ (Answer.nak ∷ [])) (w .tally .lost) (omega arith)) pending
+        faulted (Standing.dirty (inl (nak-joins (w .answers))) (omega arith)) silent)
 
     pub is-lost : Inv S M (losesFrame w (piece S c k ∷ fs))
     is-lost =
         let p = counted .paid in
         inl
-        (record {
-          s = s;
-          r = r;
-          c = false;
-          k = suc k;
-          m = m;
-          j = j;
-          R = R;
-          sends = sends;
-          ported = ported;
-          stored = stored;
-          reached = reached;
-          marked = marked;
-          linked = unlinked (w .answers) (w .lost + 1) (omega arith);
-          pending = pending;
-          counted = faulted;
-          standing = Standing.dirty (inr (inr (omega arith))) (omega arith);
-          silent = silent;
-        })
+        (live S M s r false (suc k) m j R sends ported stored reached marked (unlinked (w .answers) (w .tally .lost + 1) (omega arith)) pending faulted
+        (Standing.dirty (inr (inr (omega arith))) (omega arith)) silent)
 
     -- frame k's data
     iu : List ℕ
@@ -154,57 +122,30 @@ module _ {P : Ports} (S : Setting) (M : Simulates P (S .tptt)) (w : World P) (l 
           received = b;
           frames = fs;
           answers = w .answers ++ (Answer.ack ∷ []);
-          unanswered = w .unanswered;
-          lost = w .lost;
-          faults = w .faults;
+          tally = record { unanswered = w .tally .unanswered; lost = w .tally .lost; faults = w .tally .faults };
           handed = w .handed;
           report = w .report;
         })
 
     acknowledged : (r′ : Receiver) (b : List ℕ) (y : P .Receiving) → M .TakesAs y r′ → Takes S r′ → holdsOf r′ ≡ true → r′ .ended ≡ false →
         Stored S (w .sent) b (r′ .filled) → r .filled ≤ r′ .filled →
-        Standing S (w .answers ++ (Answer.ack ∷ [])) (s .nak) (w .lost) false (suc k) (r′ .waiting) (r′ .expected) (r′ .filled) R (w .faults) → Left-by r′ b y
+        Standing S (w .answers ++ (Answer.ack ∷ [])) (s .nak) (w .tally .lost) false (suc k) (r′ .waiting) (r′ .expected) (r′ .filled) R (w .tally .faults) → Left-by r′ b y
     unfolding Left-by
     acknowledged r′ b y t tf h o st more g =
         let a = length-append (w .answers) (Answer.ack ∷ []) in
         let q = reached in
         inl
-        (record {
-          s = s;
-          r = r′;
-          c = false;
-          k = suc k;
-          m = m;
-          j = j;
-          R = R;
-          sends = sends;
-          ported =
-              record {
-                takes = t;
-                send-for = ported .send-for;
-                take-for = tf;
-                s-holds = ported .s-holds;
-                s-open = ported .s-open;
-                r-holds = h;
-                r-open = o;
-              };
-          stored = st;
-          reached = omega arith;
-          marked = marked;
-          linked = unlinked (w .answers ++ (Answer.ack ∷ [])) (w .lost) (omega arith);
-          pending = pending;
-          counted = counted;
-          standing = g;
-          silent = silent;
-        })
+        (live S M s r′ false (suc k) m j R sends
+        (record { takes = t; send-for = ported .send-for; take-for = tf; s-holds = ported .s-holds; s-open = ported .s-open; r-holds = h; r-open = o }) st
+        (omega arith) marked (unlinked (w .answers ++ (Answer.ack ∷ [])) (w .tally .lost) (omega arith)) pending counted g silent)
 
     -- the answers with the ACK behind them; what is clean is still in step by e
     stands : {waiting : Bool} {expected filled : ℕ} → (InStep S c k (r .waiting) (r .expected) (r .filled) → InStep S false (suc k) waiting expected filled) →
-        Standing S (w .answers ++ (Answer.ack ∷ [])) (s .nak) (w .lost) false (suc k) waiting expected filled R (w .faults)
+        Standing S (w .answers ++ (Answer.ack ∷ [])) (s .nak) (w .tally .lost) false (suc k) waiting expected filled R (w .tally .faults)
     stands {waiting} {expected} {filled} e = go standing
       where
-        go : Standing S (w .answers) (s .nak) (w .lost) c k (r .waiting) (r .expected) (r .filled) R (w .faults) →
-            Standing S (w .answers ++ (Answer.ack ∷ [])) (s .nak) (w .lost) false (suc k) waiting expected filled R (w .faults)
+        go : Standing S (w .answers) (s .nak) (w .tally .lost) c k (r .waiting) (r .expected) (r .filled) R (w .tally .faults) →
+            Standing S (w .answers ++ (Answer.ack ∷ [])) (s .nak) (w .tally .lost) false (suc k) waiting expected filled R (w .tally .faults)
         go (Standing.clean a n z i) = Standing.clean (ack-joins (w .answers) a) n z (e i)
         go (Standing.dirty (inl a) p) = Standing.dirty (inl (nak-stays (w .answers) Answer.ack a)) p
         go (Standing.dirty (inr b) p) = Standing.dirty (inr b) p
@@ -244,7 +185,7 @@ module _ {P : Ports} (S : Setting) (M : Simulates P (S .tptt)) (w : World P) (l 
           beyond : (i : ℕ) → max (r .filled) (place S k + length iu) ≤ i → getD b′ i 0 ≡ getD (S .before) i 0
           beyond i h = placed-over (w .received) iu (place S k) fits i (omega arith) ∙ stored .rest i (inr (omega arith))
 
-    whole-keeps : (y : P .Receiving) (b : List ℕ) {z : Result} → Kept r (place S k) c (length iu) z → M .TakesAs y (z .receiver) → b ≡ after (z .arrival) (place S k) iu (w .received) → Left-by (z .receiver) b y
+    whole-keeps : (y : P .Receiving) (b : List ℕ) {z : Left Receiver} → Kept r (place S k) c (length iu) z → M .TakesAs y (z .left) → b ≡ storing (z .says) (place S k) iu (w .received) → Left-by (z .left) b y
     unfolding b′
     whole-keeps y b (Kept.full e) t q =
         subst (λ (v : List ℕ). Left-by r v y) (sym q)
@@ -261,8 +202,8 @@ module _ {P : Ports} (S : Setting) (M : Simulates P (S .tptt)) (w : World P) (l 
     whole-keeps y b (Kept.stored inside stp) t q =
         let reach : place S k ≤ r .filled = reaches r-held stp in
         let q′ : b ≡ b′ reach = q ∙ put-down _ (place S k) iu (w .received) in
-        subst (λ (v : List ℕ). Left-by (storedOf r (place S k) (length iu) .receiver) v y) (sym q′)
-        (acknowledged (storedOf r (place S k) (length iu) .receiver) (b′ reach) y t (ported .take-for)
+        subst (λ (v : List ℕ). Left-by (storedOf r (place S k) (length iu)) v y) (sym q′)
+        (acknowledged (storedOf r (place S k) (length iu)) (b′ reach) y t (ported .take-for)
         (stored-holds r (place S k) (length iu) (ported .r-holds) (inside .low) (inside .high)) (ported .r-open) (stored-more reach) (omega arith)
         (stands (λ i. inr (inr (refl, next)))))
       where
@@ -289,8 +230,8 @@ module _ {P : Ports} (S : Setting) (M : Simulates P (S .tptt)) (w : World P) (l 
 
   -- by the frames on the way
   module _ (E : List (List ℕ) → World P) (same : E [] ≡ w)
-      (first : (fs : List (List ℕ)) → Flight (piece S) false (suc k) (s .cdp) j fs → suc (length fs) + length (w .answers) + w .lost ≡ s .unanswered → Inv S M (E (piece S c k ∷ fs))) where
-    by-frames : (fs : List (List ℕ)) → Flight (piece S) c k (s .cdp) j fs → length fs + length (w .answers) + w .lost ≡ s .unanswered → Inv S M (E fs)
+      (first : (fs : List (List ℕ)) → Flight (piece S) false (suc k) (s .cdp) j fs → suc (length fs) + length (w .answers) + w .tally .lost ≡ s .unanswered → Inv S M (E (piece S c k ∷ fs))) where
+    by-frames : (fs : List (List ℕ)) → Flight (piece S) c k (s .cdp) j fs → length fs + length (w .answers) + w .tally .lost ≡ s .unanswered → Inv S M (E fs)
     by-frames [] x n = subst (Inv S M) (sym same) (inl l)
     by-frames (g ∷ fs) x n =
         let u = uncons x in

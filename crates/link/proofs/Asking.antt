@@ -10,25 +10,26 @@ use lib.ListN.{length, take, drop, length-append}
 use lib.Seq.{take-at}
 use Rattle.frame.specs.Write.{over}
 use Rattle.transfer.specs.declared.Transfer.{Transfer}
-use Rattle.sender.specs.Transmit.{lentOf, lesser, frameOf, sentOf, nextOf, after}
+use Rattle.status.specs.Answer.{Said, Left}
+use Rattle.frame.specs.Write.{handing}
+use Rattle.sender.specs.Transmit.{lentOf, lesser, frameOf, sentOf, nextOf}
 use Rattle.sender.specs.declared.types.Sender.{Sender}
-use Rattle.sender.specs.declared.types.Stepped.{Stepped}
 use Rattle.sender.proofs.Held.{held, lent-again}
 use Rattle.sender.proofs.Due.{Due}
 use Rattle.sender.proofs.Kept.{sent-holds}
 use Rattle.sender.proofs.Views.{Asked, asked}
-use Rattle.link.specs.Ports.{Told, Left, Ports, tells}
+use Rattle.link.specs.Ports.{Called, Ports}
 use Rattle.link.specs.World.{World, Event, asks, step}
 use Rattle.link.proofs.Grid.{inside-at, inside-mono, at-next}
 use Rattle.link.proofs.Setting.{Setting, Sends, place, within, piece, frame-is, sized}
 use Rattle.link.proofs.Simulates.{Simulates}
 use Rattle.link.proofs.Flight.{Flight, joins, ordered}
-use Rattle.link.proofs.Invariant.{Stored, Marked, Linked, Pending, Counted, Standing, Ported, Live, Inv}
+use Rattle.link.proofs.Invariant.{Stored, Marked, Linked, Pending, Counted, Standing, Ported, Live, Inv, ported-as, live}
 use Rattle.link.proofs.Numbers.{few, j-most, retries-most}
 
 -- a call's outcome with its answer and buffer as they are known to be
-pub outcome : {X : Type 0} (x : Left X) {t : Told} {b : List ℕ} → x .told ≡ t → x .lent ≡ b → x ≡ record { left = x .left; told = t; lent = b }
-outcome x p q i = record { left = x .left; told = p i; lent = q i }
+pub outcome : {X : Type 0} (x : Called X) {t : Said} {b : List ℕ} → x .says ≡ t → x .lent ≡ b → x ≡ record { left = x .left; says = t; lent = b }
+outcome x p q i = record { left = x .left; says = p i; lent = q i }
 
 pub over-front : (f d : List ℕ) → take (length f) (over f d) ≡ f
 unfolding over
@@ -38,28 +39,10 @@ module _ {P : Ports} (S : Setting) (M : Simulates P (S .tptt)) (w : World P) (l 
   open Live l using (s, r, c, k, m, j, R, sends, ported, stored, reached, marked, linked, pending, counted, standing, silent)
 
   -- the same record, another port state that stands for it
-  again : (y : P .Sending) → M .SendsAs y s → Inv S M (record { sending = y; receiving = w .receiving; sent = w .sent; received = w .received; frames = w .frames; answers = w .answers; unanswered = w .unanswered; lost = w .lost; faults = w .faults; handed = w .handed; report = w .report })
+  again : (y : P .Sending) → M .SendsAs y s → Inv S M (record { sending = y; receiving = w .receiving; sent = w .sent; received = w .received; frames = w .frames; answers = w .answers; tally = record { unanswered = w .tally .unanswered; lost = w .tally .lost; faults = w .tally .faults }; handed = w .handed; report = w .report })
   again y h =
       inl
-      (record {
-        s = s;
-        r = r;
-        c = c;
-        k = k;
-        m = m;
-        j = j;
-        R = R;
-        sends = h;
-        ported = ported;
-        stored = stored;
-        reached = reached;
-        marked = marked;
-        linked = linked;
-        pending = pending;
-        counted = counted;
-        standing = standing;
-        silent = silent;
-      })
+      (live S M s r c k m j R h ported stored reached marked linked pending counted standing silent)
 
   -- frame j is handed out
   module _ (d : Due s) (y : P .Sending) (h : M .SendsAs y (sentOf s)) where
@@ -81,15 +64,8 @@ module _ {P : Ports} (S : Setting) (M : Simulates P (S .tptt)) (w : World P) (l 
     unfolding sentOf
     sent-ported =
         let p = ported in
-        record {
-          takes = p .takes;
-          send-for = p .send-for;
-          take-for = p .take-for;
-          s-holds = sent-holds s (held s (p .s-holds)) d (few S counted (retries-most S s (p .s-holds) (p .send-for)) (marked .restart-in) (j-most S j (marked .all-in)));
-          s-open = p .s-open;
-          r-holds = p .r-holds;
-          r-open = p .r-open;
-        }
+        ported-as S M p (p .send-for)
+        (sent-holds s (held s (p .s-holds)) d (few S counted (retries-most S s (p .s-holds) (p .send-for)) (marked .restart-in) (j-most S j (marked .all-in)))) (p .s-open)
 
     sent-marked : Marked S (s .transfer .write) (sentOf s .next) (s .balance) m (suc j)
     sent-marked =
@@ -107,7 +83,7 @@ module _ {P : Ports} (S : Setting) (M : Simulates P (S .tptt)) (w : World P) (l 
     below-next : m ≤ j
     below-next = let a = ordered (linked .flight) in let b = linked .from in omega arith
 
-    handed : (out : List ℕ) → Inv S M (asks w (record { left = y; told = Told.frame (length (frameOf s (w .sent))); lent = over (frameOf s (w .sent)) out }))
+    handed : (out : List ℕ) → Inv S M (asks w (record { left = y; says = Said.frame (length (frameOf s (w .sent))); lent = over (frameOf s (w .sent)) out }))
     unfolding sentOf
     handed out =
         let f = frameOf s (w .sent) in
@@ -124,27 +100,12 @@ module _ {P : Ports} (S : Setting) (M : Simulates P (S .tptt)) (w : World P) (l 
         let v = counted .most in
         let x = below-next in
         inl
-        (record {
-          s = sentOf s;
-          r = r;
-          c = c;
-          k = k;
-          m = m;
-          j = suc j;
-          R = R;
-          sends = h;
-          ported = sent-ported;
-          stored = stored;
-          reached = reached;
-          marked = sent-marked;
-          linked = record { flight = fl; pointed = linked .pointed; from = linked .from; conserved = omega arith; same = omega arith };
-          pending = record { nak-owed = λ z. omega arith; begun = λ z. (omega arith, refl); undone = λ z. absurd (omega arith) };
-          counted = record { frames-are = omega arith; most = omega arith; since = counted .since; ever = counted .ever; paid = counted .paid };
-          standing = standing;
-          silent = silent;
-        })
+        (live S M (sentOf s) r c k m (suc j) R h sent-ported stored reached sent-marked
+        (record { flight = fl; pointed = linked .pointed; from = linked .from; conserved = omega arith; same = omega arith })
+        (record { nak-owed = λ z. omega arith; begun = λ z. (omega arith, refl); undone = λ z. absurd (omega arith) })
+        (record { frames-are = omega arith; most = omega arith; since = counted .since; ever = counted .ever; paid = counted .paid }) standing silent)
 
-  pub ask-keeps : (out : List ℕ) (y : P .Sending) {z : Stepped} → Asked s (w .sent) out z → M .SendsAs y (z .sender) → Inv S M (asks w (record { left = y; told = tells (z .report); lent = after (z .report) (frameOf s (w .sent)) out }))
+  pub ask-keeps : (out : List ℕ) (y : P .Sending) {z : Left Sender} → Asked s (w .sent) out z → M .SendsAs y (z .left) → Inv S M (asks w (record { left = y; says = z .says; lent = handing (z .says) (frameOf s (w .sent)) out }))
   ask-keeps out y (Asked.waits f) h = again y h
   ask-keeps out y Asked.short h = again y h
   ask-keeps out y (Asked.hands d) h = handed d y h out
@@ -159,5 +120,5 @@ module _ {P : Ports} (S : Setting) (M : Simulates P (S .tptt)) (w : World P) (l 
       let x = P .ask (w .sending) (w .sent) out in
       let z = nextOf s (w .sent) out in
       let a = M .asks-as (w .sending) s (w .sent) out sends lent in
-      subst (λ (v : Left (P .Sending)). Inv S M (asks w v)) (sym (outcome x (a .1) (a .2)))
+      subst (λ (v : Called (P .Sending)). Inv S M (asks w v)) (sym (outcome x (a .1) (a .2)))
       (ask-keeps out (x .left) (asked s (w .sent) out lent (ported .s-open)) (a .0))

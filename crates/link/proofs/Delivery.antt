@@ -6,17 +6,20 @@ use mathlib.Core.Logic.{_⊎_, inl, inr, ⊎-elim}
 use mathlib.Core.Path.{_≡_, refl, sym, ap, subst, _∙_}
 use native.Mathlib.Omega.{arith}
 use lib.ListN.{length, getD}
-use Rattle.status.specs.declared.Failure.{Failure}
 use Rattle.sender.specs.Transmit.{nextOf}
-use Rattle.sender.specs.declared.types.Stepped.{Stepped}
+use Rattle.sender.specs.declared.types.Sender.{Sender}
 use Rattle.sender.proofs.Held.{held}
 use Rattle.sender.proofs.Views.{Asked, asked}
 use Rattle.receiver.proofs.Held as receiver
-use Rattle.link.specs.Ports.{Told, Left, Signal, Ports, tells}
-use Rattle.link.specs.World.{World, Report, Event, Call, noted, sends, receives, called, step, run, Harmless, Idle, Allows, Allowed}
-use Rattle.link.specs.Claim.{Burst, Concluded, Delivered, LinkFailed, Delivers}
+use Rattle.status.specs.Answer.{Word, Said, Left}
+use Rattle.status.proofs.Opened.{differ}
+use Rattle.link.specs.Ports.{Signal, Ports}
+use Rattle.link.specs.World.{World, Report, Event, step, run, Allows, Allowed}
+use Rattle.link.specs.Delivers.{Burst, Concluded, Delivered, LinkFailed, Delivers}
 use Rattle.link.proofs.Setting.{Setting, limits}
 use Rattle.link.proofs.Simulates.{Simulates}
+use Rattle.link.proofs.Others.{idle-same}
+use Rattle.link.proofs.Late.{late-keeps}
 use Rattle.link.proofs.Invariant.{Live, Done, Reported, Inv}
 use Rattle.link.proofs.Numbers.{j-most, within-bound}
 use Rattle.link.proofs.Asking as live-asking
@@ -26,55 +29,6 @@ use Rattle.link.proofs.Closing as live-closing
 use Rattle.link.proofs.Resting as done
 
 module _ {P : Ports} (S : Setting) (M : Simulates P (S .tptt)) where
-  -- ── a call that is refused or changes nothing leaves the world as it is ──
-  sends-same : (w : World P) (x : Left (P .Sending)) → x .left ≡ w .sending → noted (x .told) (w .report) ≡ w .report → sends w x ≡ w
-  sends-same w x e q i =
-      record {
-        sending = e i;
-        receiving = w .receiving;
-        sent = w .sent;
-        received = w .received;
-        frames = w .frames;
-        answers = w .answers;
-        unanswered = w .unanswered;
-        lost = w .lost;
-        faults = w .faults;
-        handed = w .handed;
-        report = q i;
-      }
-
-  receives-same : (w : World P) (y : P .Receiving) → y ≡ w .receiving → receives w y ≡ w
-  receives-same w y e i =
-      record {
-        sending = w .sending;
-        receiving = e i;
-        sent = w .sent;
-        received = w .received;
-        frames = w .frames;
-        answers = w .answers;
-        unanswered = w .unanswered;
-        lost = w .lost;
-        faults = w .faults;
-        handed = w .handed;
-        report = w .report;
-      }
-
-  harmless-send : (w : World P) (b : List ℕ) (x : Left (P .Sending)) → (x .told ≡ Told.refused → x .left ≡ w .sending) → Harmless (w .sending) b (w .report) x → sends w x ≡ w
-  harmless-send w b x f (inl e) = sends-same w x (f e) (ap (λ (t : Told). noted t (w .report)) e)
-  harmless-send w b x f (inr e) = sends-same w x (e .0) (e .2)
-
-  harmless-receive : (w : World P) (b : List ℕ) (x : Left (P .Receiving)) → (x .told ≡ Told.refused → x .left ≡ w .receiving) → Harmless (w .receiving) b (w .report) x → receives w (x .left) ≡ w
-  harmless-receive w b x f (inl e) = receives-same w (x .left) (f e)
-  harmless-receive w b x f (inr e) = receives-same w (x .left) (e .0)
-
-  idle-same : (w : World P) (k : Call P) → Idle w k → called w k ≡ w
-  idle-same w (Call.asking d out) h = harmless-send w out _ (M .ask-refused (w .sending) d out) h
-  idle-same w (Call.signals g) h = harmless-send w [] _ (M .signal-refused g (w .sending)) h
-  idle-same w (Call.arriving f b) h = harmless-receive w b _ (M .arrive-refused (w .receiving) f b) h
-  idle-same w Call.losing h = harmless-receive w [] _ (M .lose-refused (w .receiving)) h
-  idle-same w (Call.at-sender c) h = harmless-send w _ _ (M .send-call-refused c (w .sending)) h
-  idle-same w (Call.at-receiver c) h = harmless-receive w _ _ (M .receive-call-refused c (w .receiving)) h
-
   -- ── every allowed event keeps the invariant ──
   step-keeps : (w : World P) (e : Event P) → Inv S M w → Allows w e → Inv S M (step w e)
   step-keeps w (Event.ask out) (inl l) a = live-asking.asking S M w l out
@@ -93,7 +47,9 @@ module _ {P : Ports} (S : Setting) (M : Simulates P (S .tptt)) where
   step-keeps w Event.timeout (inr d) a = done.timing-out S M w d
   step-keeps w Event.cut (inl l) a = live-closing.cutting S M w l
   step-keeps w Event.cut (inr d) a = done.cutting S M w d
-  step-keeps w (Event.other k) i a = subst (Inv S M) (sym (idle-same w k a)) i
+  step-keeps w (Event.other k) i (inl a) = subst (Inv S M) (sym (idle-same (M .steady) w k a)) i
+  step-keeps w (Event.other k) (inl l) (inr a) = absurd (a .0 (l .silent))
+  step-keeps w (Event.other k) (inr d) (inr a) = late-keeps S M w d k (a .1)
 
   run-keeps : (w : World P) (es : List (Event P)) → Inv S M w → Allowed w es → Inv S M (run w es)
   run-keeps w [] i a = i
@@ -115,18 +71,18 @@ module _ {P : Ports} (S : Setting) (M : Simulates P (S .tptt)) where
       zero : l .s .unanswered ≡ 0
       zero = sym (l .linked .same) ∙ z
 
-      go : {x : Stepped} → Asked (l .s) (w .sent) out x → tells (x .report) ≡ Told.wait → ⊥
+      go : {x : Left Sender} → Asked (l .s) (w .sent) out x → x .says ≡ Said.told Word.wait → ⊥
       go (Asked.waits (inl h)) q = omega (arith, zero, l .pending .nak-owed h)
       go (Asked.waits (inr (inl h))) q = omega (arith, zero, held (l .s) (l .ported .s-holds) .limits .window-least)
       go (Asked.waits (inr (inr h))) q = l .pending .undone zero (h ∙ l .ported .send-for .end)
-      go Asked.short q = let z : _≡_ {A = ℕ} 0 1 = cc in omega arith
-      go (Asked.hands v) q = let z : _≡_ {A = ℕ} 0 1 = cc in omega arith
+      go Asked.short q = differ (cc)
+      go (Asked.hands v) q = differ (cc)
 
   none-told : {A : Type 0} (q : Report) → q ≡ Report.none → (n : ℕ) → q ≡ Report.delivered n → A
-  none-told q e n f = let z : _≡_ {A = ℕ} 0 1 = cc in absurd (omega arith)
+  none-told q e n f = differ (cc)
 
-  none-failed : {A : Type 0} (q : Report) → q ≡ Report.none → (f : Failure) (n : ℕ) → q ≡ Report.failed f n → A
-  none-failed q e f n g = let z : _≡_ {A = ℕ} 0 1 = cc in absurd (omega arith)
+  none-failed : {A : Type 0} (q : Report) → q ≡ Report.none → (f : ℕ) (n : ℕ) → q ≡ Report.failed f n → A
+  none-failed q e f n g = differ (cc)
 
   module _ (start : World P) (from : (start .sent ≡ S .source) × (start .received ≡ S .before)) where
     live-claims : (w : World P) → Live S M w → Delivers burst start w
@@ -149,17 +105,17 @@ module _ {P : Ports} (S : Setting) (M : Simulates P (S .tptt)) where
 
     -- what was reported says all
     module _ (w : World P) where
-      said-right : {q : Report} → Reported S M (w .received) (w .handed) (w .faults) q → (n : ℕ) → q ≡ Report.delivered n → (i : ℕ) → S .base ≤ i → i < S .end → getD (w .received) i 0 ≡ getD (S .source) i 0
+      said-right : {q : Report} → Reported S M (w .received) (w .handed) (w .tally .faults) q → (n : ℕ) → q ≡ Report.delivered n → (i : ℕ) → S .base ≤ i → i < S .end → getD (w .received) i 0 ≡ getD (S .source) i 0
       said-right (Reported.delivers h) n e = h
-      said-right (Reported.fails f lo hi p) n e = let z : _≡_ {A = ℕ} 0 1 = cc in absurd (omega arith)
+      said-right (Reported.fails f lo hi p) n e = differ (cc)
 
-      said-count : {q : Report} → Reported S M (w .received) (w .handed) (w .faults) q → (f : Failure) (n : ℕ) → (q ≡ Report.delivered n) ⊎ (q ≡ Report.failed f n) → n ≡ length (w .handed)
+      said-count : {q : Report} → Reported S M (w .received) (w .handed) (w .tally .faults) q → (f : ℕ) (n : ℕ) → (q ≡ Report.delivered n) ⊎ (q ≡ Report.failed f n) → n ≡ length (w .handed)
       said-count (Reported.delivers h) f n (inl e) = cc
-      said-count (Reported.delivers h) f n (inr e) = let z : _≡_ {A = ℕ} 0 1 = cc in absurd (omega arith)
-      said-count (Reported.fails g lo hi p) f n (inl e) = let z : _≡_ {A = ℕ} 0 1 = cc in absurd (omega arith)
+      said-count (Reported.delivers h) f n (inr e) = differ (cc)
+      said-count (Reported.fails g lo hi p) f n (inl e) = differ (cc)
       said-count (Reported.fails g lo hi p) f n (inr e) = cc
 
-      said-verdict : {q : Report} → Reported S M (w .received) (w .handed) (w .faults) q → w .report ≡ q → Delivered w ⊎ (LinkFailed w × (S .limit < w .faults))
+      said-verdict : {q : Report} → Reported S M (w .received) (w .handed) (w .tally .faults) q → w .report ≡ q → Delivered w ⊎ (LinkFailed w × (S .limit < w .tally .faults))
       said-verdict (Reported.delivers h) e = inl (length (w .handed), e)
       said-verdict (Reported.fails f lo hi p) e = inr ((f, (length (w .handed), e, lo, hi)), p)
 

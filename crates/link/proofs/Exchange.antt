@@ -6,46 +6,50 @@ use mathlib.Core.Logic.{_⊎_, inl, inr}
 use mathlib.Core.Path.{_≡_, refl, sym, ap, subst, subst₂, _∙_}
 use native.Mathlib.Nat.{zero-mul}
 use native.Mathlib.Omega.{arith}
+use lib.Dec.{eqb}
 use lib.ListN.{length, take}
 use borrow.Author.Tests.{lt-ltb}
 use Rattle.status.specs.Pick.{pick}
+use Rattle.status.specs.Answer.{Word, Said, Left, _saying_}
 use Rattle.transfer.specs.declared.Transfer.{Transfer}
 use Rattle.frame.specs.Format.{XFER-RDY, encode}
-use Rattle.frame.specs.Write.{over}
+use Rattle.frame.specs.Write.{over, handing}
 use Rattle.frame.specs.XferRdy.{xferRdyBytes}
 use Rattle.frame.specs.RoundTrip.{InRange}
 use Rattle.frame.specs.declared.types.Header.{Header}
 use Rattle.frame.specs.declared.types.XferRdy.{XferRdy}
 use Rattle.receiver.proofs.Held as receiver
-use Rattle.initiator.specs.WriteRecord.{holdsOf, startedOf}
-use Rattle.initiator.specs.WriteTake.{arrivedOf, limitOf}
+use Rattle.sender.specs.declared.types.Burst.{Burst}
+use Rattle.initiator.specs.WriteRecord.{holdsOf, beginsOf}
+use Rattle.initiator.specs.WriteCount.{takes}
+use Rattle.initiator.specs.WriteTake.{writeArrivalOf, askedOf, limitOf}
 use Rattle.initiator.specs.declared.types.Writer.{Writer}
-use Rattle.initiator.specs.declared.types.WriteAnswer.{WriteAnswer}
 use Rattle.initiator.proofs.WriteHeld.{held}
-use Rattle.initiator.proofs.WriteTold.{Fits}
-use Rattle.initiator.proofs.WriteViews.{xfer-rdy-taken, xfer-rdy-fits, started-holds}
-use Rattle.target.specs.Transmit.{nextOf, issuedOf, headerOf, iuOf, frameOf}
+use Rattle.initiator.proofs.WriteFits.{Fits}
+use Rattle.initiator.proofs.WriteSame.{Asks, xfer-rdy-starts, xfer-rdy-fits}
+use Rattle.initiator.proofs.WriteKept.{begins-well}
+use Rattle.target.specs.Record.{AGAIN, UNANSWERED}
+use Rattle.target.specs.Transmit.{nextOf, issuedOf, xferRdyHeader, xferRdyIu, frameOf}
 use Rattle.target.specs.Answer.{ackOf, acknowledgedOf}
 use Rattle.target.specs.declared.types.Target.{Target}
-use Rattle.target.specs.declared.types.Stepped.{Stepped}
-use Rattle.target.specs.declared.types.Report.{Report}
 use Rattle.target.proofs.Held as target
 use Rattle.target.proofs.Issue.{issued-order, burst-transfer, can-write, iu-length}
 use Rattle.target.proofs.Views.{HandedOut, handed-out, tag-most, Acked, acknowledged}
 use Rattle.target.proofs.Kept.{acknowledged-holds}
-use Rattle.link.specs.Claim.{Alike, Always, xferRdyOf, fresh}
+use Rattle.link.specs.Delivers.{fresh}
+use Rattle.link.specs.Claim.{Alike, Always, xferRdySent}
 use Rattle.link.specs.Writing.{writePorts}
 use Rattle.link.proofs.Grid.{at-first}
 use Rattle.link.proofs.Setting.{Setting, sized}
 use Rattle.link.proofs.Flight.{Flight}
-use Rattle.link.proofs.Invariant.{Standing, Live}
+use Rattle.link.proofs.Invariant.{Standing, Live, live}
 use Rattle.link.proofs.Asking.{over-front}
 use Rattle.link.proofs.Delivery.{delivers}
 use Rattle.link.proofs.WriteSimulates.{Ready, WritesAs, TakesAs, write-simulates, write-sends, write-takes}
 
-module _ (x : Writer) (y : Target) (out d b : List ℕ) (n k : ℕ) (hx : holdsOf x ≡ true) (ox : x .sender .ended ≡ false) (zx : x .sender .unanswered ≡ 0)
+module _ (x : Writer) (y : Target) (out d b : List ℕ) (n : ℕ) (hx : holdsOf x ≡ true) (ox : x .sender .ended ≡ false) (zx : x .sender .unanswered ≡ 0)
     (al : Alike (x .sender .transfer) (y .receiver .transfer)) (on : 1 ≤ x .sender .transfer .limit) (dl : length d ≡ x .sender .transfer .count) (bl : length b ≡ x .sender .transfer .count)
-    (hands : nextOf y out .report ≡ Report.Frame n) (takes : arrivedOf x (xferRdyOf y out n) .answer ≡ WriteAnswer.XferRdy k) (acks : ackOf (nextOf y out .target) .report ≡ Report.Acknowledged) where
+    (hands : nextOf y out .says ≡ Said.frame n) (took : takes (writeArrivalOf x (xferRdySent y out n) .says) ≡ true) (acks : ackOf (nextOf y out .left) .says ≡ Said.told Word.acknowledged) where
   handed : HandedOut y out n
   handed = handed-out y out n hands
 
@@ -70,19 +74,19 @@ module _ (x : Writer) (y : Target) (out d b : List ℕ) (n k : ℕ) (hx : holdsO
   same-transfer = burst-transfer y
 
   abbrev head : Header
-  head = headerOf (issuedOf y) (y .again)
+  head = xferRdyHeader (issuedOf y) (eqb (y .state) AGAIN)
 
   -- the bytes that the initiator got
-  bytes : xferRdyOf y out n ≡ encode head (xferRdyBytes asked)
-  unfolding frameOf iuOf
+  bytes : xferRdySent y out n ≡ encode head (xferRdyBytes asked)
+  unfolding frameOf xferRdyIu
   bytes =
       ap (λ (v : List ℕ). take n v) (handed .buffer) ∙ ap (λ (v : ℕ). take v (over (frameOf y) out)) (handed .size) ∙ over-front (frameOf y) out
 
-  answered : arrivedOf x (encode head (xferRdyBytes asked)) .answer ≡ WriteAnswer.XferRdy k
-  answered = ap (λ (v : List ℕ). arrivedOf x v .answer) (sym bytes) ∙ takes
+  answered : takes (writeArrivalOf x (encode head (xferRdyBytes asked)) .says) ≡ true
+  answered = ap (λ (v : List ℕ). takes (writeArrivalOf x v .says)) (sym bytes) ∙ took
 
   in-range : InRange head
-  unfolding headerOf
+  unfolding xferRdyHeader
   in-range =
       record {
         tag = subst (λ (v : ℕ). v < 2 ^ 16) (al .tag ∙ sym (ap (λ (v : Transfer). v .tag) same-transfer)) (al .tag-bits);
@@ -94,23 +98,36 @@ module _ (x : Writer) (y : Target) (out d b : List ℕ) (n k : ℕ) (hx : holdsO
   end-small = omega (arith, issued-order y y-held .1, y-held .marks .limits .count-most)
 
   dest : head .dest ≡ x .sender .transfer .local
-  unfolding headerOf
+  unfolding xferRdyHeader
   dest = ap (λ (v : Transfer). v .remote) same-transfer ∙ sym (al .back)
 
   source : head .source ≡ x .sender .transfer .remote
-  unfolding headerOf
+  unfolding xferRdyHeader
   source = ap (λ (v : Transfer). v .local) same-transfer ∙ sym (al .there)
 
   tag : head .tag ≡ x .sender .transfer .tag
-  unfolding headerOf
+  unfolding xferRdyHeader
   tag = ap (λ (v : Transfer). v .tag) same-transfer ∙ sym (al .tag)
 
   kind : head .kind ≡ XFER-RDY
-  unfolding headerOf
+  unfolding xferRdyHeader
   kind = refl
 
+  asks : Asks x head asked
+  asks =
+      record {
+        kind = kind;
+        dest = dest;
+        source = source;
+        tag = tag;
+        range = in-range;
+        writes = can-write y y-held;
+        offset = omega (arith, end-small, order);
+        len = omega (arith, end-small);
+      }
+
   fits : Fits x asked
-  fits = xfer-rdy-fits x head asked hx ox kind dest source tag in-range (can-write y y-held) (omega (arith, end-small, order)) (omega (arith, end-small)) k answered
+  fits = xfer-rdy-fits x head asked hx ox asks answered
 
   some : base < end
   some = omega (arith, fits .some)
@@ -123,31 +140,31 @@ module _ (x : Writer) (y : Target) (out d b : List ℕ) (n k : ℕ) (hx : holdsO
 
   -- RETRY DATA FRAMES is one, so the burst has the transfer's limit
   limit : limitOf x (head .flags .retry) ≡ x .sender .transfer .limit
-  unfolding headerOf pick
+  unfolding xferRdyHeader pick
   limit = rw (lt-ltb 0 (issuedOf y .receiver .transfer .limit) (omega (arith, on, al .limit, ap (λ (v : Transfer). v .limit) same-transfer))) refl
 
   -- the initiator's record then, and the target's
   abbrev writer : Writer
-  writer = startedOf x base end (issuedOf y .tptt) (x .sender .transfer .limit)
+  writer = beginsOf (x .sender .transfer) (record { base = base; end = end; tptt = issuedOf y .tptt; limit = x .sender .transfer .limit })
 
-  started : arrivedOf x (xferRdyOf y out n) .writer ≡ writer
-  unfolding headerOf
+  started : writeArrivalOf x (xferRdySent y out n) .left ≡ writer
+  unfolding xferRdyHeader
   started =
-      ap (λ (v : List ℕ). arrivedOf x v .writer) bytes
-      ∙ xfer-rdy-taken x head asked hx ox zx kind dest source tag in-range (can-write y y-held) (omega (arith, end-small, order)) (omega (arith, end-small)) k answered
-      ∙ (λ i. startedOf x base (whole i) (issuedOf y .tptt) (limit i))
+      ap (λ (v : List ℕ). writeArrivalOf x v .left) bytes
+      ∙ xfer-rdy-starts x head asked hx ox asks answered zx
+      ∙ (λ i. beginsOf (x .sender .transfer) (record { base = base; end = whole i; tptt = issuedOf y .tptt; limit = limit i }))
 
   acked : Acked (issuedOf y)
-  acked = acknowledged (issuedOf y) (ap (λ (v : Target). ackOf v .report) (sym (handed .target)) ∙ acks)
+  acked = acknowledged (issuedOf y) (ap (λ (v : Target). ackOf v .says) (sym (handed .target)) ∙ acks)
 
-  ready : ackOf (nextOf y out .target) .target ≡ acknowledgedOf (issuedOf y) .target
-  ready = ap (λ (v : Target). ackOf v .target) (handed .target) ∙ ap (λ (v : Stepped). v .target) (acked .left)
+  ready : ackOf (nextOf y out .left) .left ≡ acknowledgedOf (issuedOf y)
+  ready = ap (λ (v : Target). ackOf v .left) (handed .target) ∙ ap (λ (v : Left Target). v .left) (acked .left)
 
-  ready-holds : target.Held (acknowledgedOf (issuedOf y) .target)
-  ready-holds = target.held _ (acknowledged-holds (issuedOf y) (acked .holds))
+  ready-holds : target.Held (acknowledgedOf (issuedOf y))
+  ready-holds = target.held _ (acknowledged-holds (issuedOf y) (acked .holds) (acked .state))
 
   writer-holds : holdsOf writer ≡ true
-  writer-holds = started-holds x base end (issuedOf y .tptt) (x .sender .transfer .limit) hx order end-most (omega arith)
+  writer-holds = begins-well x (writer .sender .burst) hx order end-most (omega arith)
 
   abbrev setting : Setting
   setting =
@@ -177,61 +194,47 @@ module _ (x : Writer) (y : Target) (out d b : List ℕ) (n k : ℕ) (hx : holdsO
         before-length = bl;
       }
 
-  was-issued : issuedOf y .issued ≡ true
-  unfolding issuedOf
-  was-issued = refl
-
-  begins : Live setting (write-simulates (issuedOf y .tptt)) (fresh writePorts writer (acknowledgedOf (issuedOf y) .target) d b)
+  begins : Live setting (write-simulates (issuedOf y .tptt)) (fresh writePorts writer (acknowledgedOf (issuedOf y)) d b)
+  unfolding pick
   begins =
       let z = zero-mul (x .sender .transfer .size) in
       let o = order in
       let q = some in
       let m = end-most in
-      record {
-        s = writer .sender;
-        r = acknowledgedOf (issuedOf y) .target .receiver;
-        c = false;
-        k = 0;
-        m = 0;
-        j = 0;
-        R = 0;
-        sends =
-            write-sends (issuedOf y .tptt) writer (writer .sender)
-            (record { sender = refl; ready = record { idle = refl; write = held x hx .write; marks = record { reached-least = omega arith; reached-most = o; base-most = omega arith; end-most = omega arith; limit-most = omega arith } } });
-        ported =
-            record {
-              takes =
-                  write-takes (issuedOf y .tptt) (acknowledgedOf (issuedOf y) .target) _
-                  (record { receiver = refl; issued = was-issued; ready = refl; current = refl; holds = acknowledged-holds (issuedOf y) (acked .holds) });
-              send-for = record { transfer = refl; limit = refl; tptt = refl; base = refl; end = refl };
-              take-for = record { transfer = same-transfer; base = refl; end = refl };
-              s-holds = held writer writer-holds .holds;
-              s-open = ox;
-              r-holds = ready-holds .core;
-              r-open = acked .ended;
-            };
-        stored = record { source = refl; size = bl; right = λ i lo hi. absurd (omega arith); rest = λ i h. refl };
-        reached = omega arith;
-        marked = record { next-at = omega arith; balance-at = omega arith; restart-in = omega arith; all-in = λ i h. absurd (omega arith); from-base = λ q. refl };
-        linked = record { flight = Flight.none; pointed = λ q. refl; from = omega arith; conserved = refl; same = refl };
-        pending = record { nak-owed = λ q. absurd (false≢true q); begun = λ q. absurd (omega arith); undone = λ v e. omega arith };
-        counted = record { frames-are = refl; most = omega arith; since = omega arith; ever = omega arith; paid = omega arith };
-        standing = Standing.clean tt refl refl (inr (inr (refl, omega arith)));
-        silent = refl;
-      }
+      live setting (write-simulates (issuedOf y .tptt)) (writer .sender) (acknowledgedOf (issuedOf y) .receiver) false 0 0 0 0
+      (write-sends (issuedOf y .tptt) writer (writer .sender)
+      (record {
+        sender = refl;
+        ready = record { idle = refl; write = held x hx .write; marks = record { reached-least = omega arith; reached-most = o; base-most = omega arith; end-most = omega arith; limit-most = omega arith } };
+      }))
+      (record {
+        takes = write-takes (issuedOf y .tptt) (acknowledgedOf (issuedOf y)) _ (record { receiver = refl; ready = refl; current = refl; holds = acknowledged-holds (issuedOf y) (acked .holds) (acked .state) });
+        send-for = record { transfer = refl; limit = refl; tptt = ap (λ (v : Bool). pick v (issuedOf y .tptt) 0) (held x hx .write); base = refl; end = refl };
+        take-for = record { transfer = same-transfer; base = refl; end = refl };
+        s-holds = held writer writer-holds .holds;
+        s-open = refl;
+        r-holds = ready-holds .core;
+        r-open = acked .ended;
+      })
+      (record { source = refl; size = bl; right = λ i lo hi. absurd (omega arith); rest = λ i h. refl }) (omega arith)
+      (record { next-at = omega arith; balance-at = omega arith; restart-in = omega arith; all-in = λ i h. absurd (omega arith); from-base = λ q. refl })
+      (record { flight = Flight.none; pointed = λ q. refl; from = omega arith; conserved = refl; same = refl })
+      (record { nak-owed = λ q. absurd (false≢true q); begun = λ q. absurd (omega arith); undone = λ v e. omega arith })
+      (record { frames-are = refl; most = omega arith; since = omega arith; ever = omega arith; paid = omega arith })
+      (Standing.clean tt refl refl (inr (inr (refl, omega arith)))) refl
 
   -- the claim from there
   pub write-delivers :
       Always
       (record {
-        base = nextOf y out .target .receiver .base;
-        end = nextOf y out .target .receiver .end;
+        base = nextOf y out .left .receiver .base;
+        end = nextOf y out .left .receiver .end;
         size = x .sender .transfer .size;
         limit = x .sender .transfer .limit;
       })
-      (fresh writePorts (arrivedOf x (xferRdyOf y out n) .writer) (ackOf (nextOf y out .target) .target) d b)
+      (fresh writePorts (writeArrivalOf x (xferRdySent y out n) .left) (ackOf (nextOf y out .left) .left) d b)
   write-delivers =
-      let from : Always (record { base = base; end = end; size = x .sender .transfer .size; limit = x .sender .transfer .limit }) (fresh writePorts writer (acknowledgedOf (issuedOf y) .target) d b) =
+      let from : Always (record { base = base; end = end; size = x .sender .transfer .size; limit = x .sender .transfer .limit }) (fresh writePorts writer (acknowledgedOf (issuedOf y)) d b) =
       delivers setting (write-simulates (issuedOf y .tptt)) _ (refl, refl) (inl begins) in
-      subst (λ (v : Target). Always (record { base = v .receiver .base; end = v .receiver .end; size = x .sender .transfer .size; limit = x .sender .transfer .limit }) (fresh writePorts (arrivedOf x (xferRdyOf y out n) .writer) (ackOf (nextOf y out .target) .target) d b)) (sym (handed .target))
+      subst (λ (v : Target). Always (record { base = v .receiver .base; end = v .receiver .end; size = x .sender .transfer .size; limit = x .sender .transfer .limit }) (fresh writePorts (writeArrivalOf x (xferRdySent y out n) .left) (ackOf (nextOf y out .left) .left) d b)) (sym (handed .target))
       (subst₂ (λ (a : Writer) (c : Target). Always (record { base = base; end = end; size = x .sender .transfer .size; limit = x .sender .transfer .limit }) (fresh writePorts a c d b)) (sym started) (sym ready) from)

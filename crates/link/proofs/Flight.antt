@@ -6,7 +6,7 @@ use mathlib.Core.Path.{_≡_, refl}
 use native.Mathlib.Omega.{arith}
 use native.Mathlib.Nat.{le-refl}
 use lib.ListN.{length}
-use Rattle.link.specs.World.{Answer}
+use Rattle.link.specs.Tally.{Answer}
 
 -- from (c, k), the first frame on the way or the next to be handed out, up to (d, j), the next to be handed out
 pub data Flight (f : Bool → ℕ → List ℕ) : Bool → ℕ → Bool → ℕ → List (List ℕ) → Type 0 where

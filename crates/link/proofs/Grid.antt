@@ -1,4 +1,4 @@
--- The frames of a burst by number: where each begins, and how many there are.
+-- The frames of a burst by number, for any size from 1 on: where each begins, and how many there are.
 use Prim.Native.Nat.{ℕ, zero, suc, _+_, _-_, _*_, _/_, _%_, min, _≤_, _<_}
 use mathlib.Core.Path.{_≡_, refl, sym, ap, _∙_}
 use native.Mathlib.Nat.{suc-mul, zero-mul, mul-le-mul-left, mul-le-mul-right, mul-le-mul, lt-of-mul-lt-mul-right, div-add-mod', mod-lt}
@@ -20,7 +20,7 @@ module _ (base end size : ℕ) where
   abbrev pub needed : ℕ
   needed = (end - base + (size - 1)) / size
 
-module _ (base end size : ℕ) (z : 4 ≤ size) where
+module _ (base end size : ℕ) (z : 1 ≤ size) where
   pub at-first : base ≤ end → at base end size 0 ≡ base
   at-first h = omega (arith, zero-mul size)
 
@@ -60,8 +60,8 @@ module _ (base end size : ℕ) (z : 4 ≤ size) where
   pub inside-needed : (i : ℕ) → Inside base end size i → i < needed base end size
   inside-needed i h = lt-of-mul-lt-mul-right size (omega (arith, covered))
 
-  pub needed-most : end ≤ 16_777_216 → size ≤ 1_024 → needed base end size ≤ 8_388_608
-  needed-most e s =
+  pub needed-most : needed base end size ≤ end - base + (size - 1)
+  needed-most =
       let x = end - base + (size - 1) in
       let n = needed base end size in
       omega (arith, div-add-mod' x size, mul-le-mul-left n z)

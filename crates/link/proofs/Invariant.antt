@@ -6,14 +6,13 @@ use mathlib.Core.Bool.{Bool, true, false}
 use mathlib.Core.Logic.{_⊎_}
 use mathlib.Core.Path.{_≡_}
 use lib.ListN.{length, getD}
-use Rattle.status.specs.Number.{failureNumber}
-use Rattle.status.specs.declared.Failure.{Failure}
 use Rattle.sender.specs.Record.{holdsOf}
 use Rattle.sender.specs.declared.types.Sender.{Sender}
 use Rattle.receiver.specs.Record as receiver
 use Rattle.receiver.specs.declared.types.Receiver.{Receiver}
 use Rattle.link.specs.Ports.{Ports}
-use Rattle.link.specs.World.{World, Answer, Report}
+use Rattle.link.specs.Tally.{Answer}
+use Rattle.link.specs.World.{World, Report}
 use Rattle.link.proofs.Setting.{Setting, Sends, Takes, place, within, enough, piece}
 use Rattle.link.proofs.Simulates.{Simulates}
 use Rattle.link.proofs.Flight.{Flight, AllAck, SomeNak}
@@ -77,6 +76,10 @@ module _ (S : Setting) where
       pub r-holds : receiver.holdsOf r ≡ true
       pub r-open : r .ended ≡ false
 
+    -- the same with another sending record
+    pub ported-as : {y : P .Receiving} {s s′ : Sender} {r : Receiver} → Ported y s r → Sends S s′ → holdsOf s′ ≡ true → s′ .ended ≡ false → Ported y s′ r
+    ported-as p f h o = record { takes = p .takes; send-for = f; take-for = p .take-for; s-holds = h; s-open = o; r-holds = p .r-holds; r-open = p .r-open }
+
     pub record Live (w : World P) : Type 0 where
       pub s : Sender
       pub r : Receiver
@@ -90,16 +93,24 @@ module _ (S : Setting) where
       pub stored : Stored (w .sent) (w .received) (r .filled)
       pub reached : place S m ≤ r .filled
       pub marked : Marked (s .transfer .write) (s .next) (s .balance) m j
-      pub linked : Linked (w .frames) (w .answers) (w .unanswered) (w .lost) (s .unanswered) (s .cdp) c k m j
+      pub linked : Linked (w .frames) (w .answers) (w .tally .unanswered) (w .tally .lost) (s .unanswered) (s .cdp) c k m j
       pub pending : Pending (s .nak) (s .cdp) (s .unanswered) (s .next) m j
-      pub counted : Counted (s .frames) (s .retries) (w .handed) (w .faults) R m j
-      pub standing : Standing (w .answers) (s .nak) (w .lost) c k (r .waiting) (r .expected) (r .filled) R (w .faults)
+      pub counted : Counted (s .frames) (s .retries) (w .handed) (w .tally .faults) R m j
+      pub standing : Standing (w .answers) (s .nak) (w .tally .lost) c k (r .waiting) (r .expected) (r .filled) R (w .tally .faults)
       pub silent : w .report ≡ Report.none
+
+    pub live : {w : World P} (s : Sender) (r : Receiver) (c : Bool) (k m j R : ℕ) → M .SendsAs (w .sending) s → Ported (w .receiving) s r →
+        Stored (w .sent) (w .received) (r .filled) → place S m ≤ r .filled → Marked (s .transfer .write) (s .next) (s .balance) m j →
+        Linked (w .frames) (w .answers) (w .tally .unanswered) (w .tally .lost) (s .unanswered) (s .cdp) c k m j → Pending (s .nak) (s .cdp) (s .unanswered) (s .next) m j →
+        Counted (s .frames) (s .retries) (w .handed) (w .tally .faults) R m j →
+        Standing (w .answers) (s .nak) (w .tally .lost) c k (r .waiting) (r .expected) (r .filled) R (w .tally .faults) → w .report ≡ Report.none → Live w
+    live s r c k m j R h p st re ma li pe co sta si =
+        record { s = s; r = r; c = c; k = k; m = m; j = j; R = R; sends = h; ported = p; stored = st; reached = re; marked = ma; linked = li; pending = pe; counted = co; standing = sta; silent = si }
 
     -- what was reported: delivery of every byte, or a failure that took more faults than the limit
     pub data Reported (received : List ℕ) (handed : List (List ℕ)) (faults : ℕ) : Report → Type 0 where
       delivers : ((i : ℕ) → S .base ≤ i → i < S .end → getD received i 0 ≡ getD (S .source) i 0) → Reported received handed faults (Report.delivered (length handed))
-      fails : (f : Failure) → 28 ≤ failureNumber f → failureNumber f ≤ 30 → S .limit < faults → Reported received handed faults (Report.failed f (length handed))
+      fails : (f : ℕ) → 28 ≤ f → f ≤ 30 → S .limit < faults → Reported received handed faults (Report.failed f (length handed))
 
     -- nothing moves any more
     pub record Done (w : World P) : Type 0 where
@@ -107,15 +118,22 @@ module _ (S : Setting) where
       pub sends : M .SendsAs (w .sending) s
       pub send-for : Sends S s
       pub s-holds : holdsOf s ≡ true
-      pub rests : (s .ended ≡ true) ⊎ ((s .ended ≡ false) × (s .unanswered ≡ 0) × (s .next ≡ s .end))
+      pub rests : (s .ended ≡ true) ⊎ ((s .ended ≡ false) × (s .unanswered ≡ 0) × (s .next ≡ s .burst .end))
       pub no-frames : w .frames ≡ []
       pub no-answers : w .answers ≡ []
-      pub none-open : w .unanswered ≡ 0
+      pub none-open : w .tally .unanswered ≡ 0
       pub source : w .sent ≡ S .source
       pub size : length (w .received) ≡ S .t .count
       pub rest : (i : ℕ) → (i < S .base) ⊎ (S .end ≤ i) → getD (w .received) i 0 ≡ getD (S .before) i 0
-      pub bounded : length (w .handed) ≤ enough S * (1 + w .faults)
-      pub reported : Reported (w .received) (w .handed) (w .faults) (w .report)
+      pub bounded : length (w .handed) ≤ enough S * (1 + w .tally .faults)
+      pub reported : Reported (w .received) (w .handed) (w .tally .faults) (w .report)
+
+    pub done : {w : World P} (s : Sender) → M .SendsAs (w .sending) s → Sends S s → holdsOf s ≡ true →
+        (s .ended ≡ true) ⊎ ((s .ended ≡ false) × (s .unanswered ≡ 0) × (s .next ≡ s .burst .end)) → w .frames ≡ [] → w .answers ≡ [] → w .tally .unanswered ≡ 0 → w .sent ≡ S .source →
+        length (w .received) ≡ S .t .count → ((i : ℕ) → (i < S .base) ⊎ (S .end ≤ i) → getD (w .received) i 0 ≡ getD (S .before) i 0) →
+        length (w .handed) ≤ enough S * (1 + w .tally .faults) → Reported (w .received) (w .handed) (w .tally .faults) (w .report) → Done w
+    done s h f sh re nf na op so si rs bo rp =
+        record { s = s; sends = h; send-for = f; s-holds = sh; rests = re; no-frames = nf; no-answers = na; none-open = op; source = so; size = si; rest = rs; bounded = bo; reported = rp }
 
     abbrev pub Inv : World P → Type 0
     Inv w = Live w ⊎ Done w

@@ -1,6 +1,7 @@
 pub mod Grid
 pub mod Setting
 pub mod Simulates
+pub mod Others
 pub mod Flight
 pub mod Placed
 pub mod Invariant
@@ -11,10 +12,13 @@ pub mod Retrying
 pub mod Answering
 pub mod Closing
 pub mod Resting
+pub mod Late
 pub mod Delivery
 pub mod ReadSimulates
 pub mod WriteSimulates
 pub mod Exchange
 pub mod Theorem
 pub mod Worked
+pub mod WorkedFaults
 pub mod WorkedWrite
+pub mod WorkedCrossing

@@ -18,10 +18,10 @@ module _ (S : Setting) where
   j-most zero f = omega arith
   j-most (suc i) f = inside-needed (S .base) (S .end) (S .t .size) (sized S) i (f i (omega arith))
 
-  enough-most : enough S ≤ 8_388_608
+  enough-most : enough S ≤ 16_778_239
   enough-most =
       let b = limits S in
-      needed-most (S .base) (S .end) (S .t .size) (sized S) (omega (arith, S .end-most, b .count-most)) (b .size-most)
+      omega (arith, needed-most (S .base) (S .end) (S .t .size) (sized S), S .end-most, b .count-most, b .size-most)
 
   -- the frame count stays far below 2 to the power 60
   pub few : {frames retries faults R m j : ℕ} {handed : List (List ℕ)} → Counted S frames retries handed faults R m j → retries ≤ S .limit → within S m → j ≤ enough S → frames + 1 < 2 ^ 60
@@ -30,9 +30,9 @@ module _ (S : Setting) where
       let e = enough-most in
       let l15 : S .limit ≤ 15 = omega (arith, S .limit-most, limits S .limit-most) in
       let mn : m < n = inside-needed (S .base) (S .end) (S .t .size) (sized S) m h in
-      let lm : S .limit * m ≤ 15 * 8_388_608 = mul-le-mul {n₂ = 15} {m₂ = 8_388_608} l15 (omega arith) in
+      let lm : S .limit * m ≤ 15 * 16_778_239 = mul-le-mul {n₂ = 15} {m₂ = 16_778_239} l15 (omega arith) in
       let ev = c .ever in
-      let Rn : R * n ≤ 125_829_135 * 8_388_608 = mul-le-mul {n₂ = 125_829_135} {m₂ = 8_388_608} (omega arith) e in
+      let Rn : R * n ≤ 251_673_600 * 16_778_239 = mul-le-mul {n₂ = 251_673_600} {m₂ = 16_778_239} (omega arith) e in
       let a = c .frames-are in
       let b = c .most in
       omega arith

@@ -13,7 +13,9 @@ use Rattle.frame.specs.Format.{DATA, encode}
 use Rattle.frame.specs.Write.{writable}
 use Rattle.frame.specs.RoundTrip.{InRange}
 use Rattle.frame.specs.declared.types.Header.{Header}
-use Rattle.sender.specs.Transmit.{frameOf, headerOf, lesser, partOf}
+use Rattle.status.specs.Pick.{pick}
+use Rattle.sender.specs.Transmit.{frameOf, dataHeader, lesser, partOf}
+use Rattle.sender.specs.declared.types.Burst.{Burst}
 use Rattle.sender.specs.declared.types.Sender.{Sender}
 use Rattle.receiver.specs.declared.types.Receiver.{Receiver}
 use Rattle.link.proofs.Grid.{Inside, at, room, at-below, at-most, room-fits, needed}
@@ -47,15 +49,15 @@ pub record Setting : Type 0 where
   pub before-length : length before ≡ t .count
 
 -- the record's constants are the setting's
-pub record SendsFor (S : Setting) (t′ : Transfer) (l τ b e : ℕ) : Type 0 where
+pub record SendsFor (S : Setting) (t′ : Transfer) (b : Burst) : Type 0 where
   pub transfer : t′ ≡ S .t
-  pub limit : l ≡ S .limit
-  pub tptt : τ ≡ S .tptt
-  pub base : b ≡ S .base
-  pub end : e ≡ S .end
+  pub limit : b .limit ≡ S .limit
+  pub tptt : pick (t′ .write) (b .tptt) 0 ≡ S .tptt
+  pub base : b .base ≡ S .base
+  pub end : b .end ≡ S .end
 
 abbrev pub Sends : Setting → Sender → Type 0
-Sends S s = SendsFor S (s .transfer) (s .limit) (s .tptt) (s .base) (s .end)
+Sends S s = SendsFor S (s .transfer) (s .burst)
 
 pub record TakesFor (S : Setting) (u′ : Transfer) (b e : ℕ) : Type 0 where
   pub transfer : u′ ≡ S .u
@@ -81,8 +83,8 @@ module _ (S : Setting) where
   pub limits : Bounds (S .t)
   limits = bounds (S .t) (S .t-limits)
 
-  pub sized : 4 ≤ S .t .size
-  sized = limits .size-least
+  pub sized : 1 ≤ S .t .size
+  sized = let l = limits .size-least in omega arith
 
   -- frame i, with CDP one or zero
   abbrev pub header : Bool → ℕ → Header
@@ -116,7 +118,7 @@ module _ (S : Setting) where
 
   -- the frame that the sending port hands out is the one of its next offset's number
   pub frame-is : (s : Sender) (j : ℕ) → Sends S s → s .next ≡ place j → frameOf s (S .source) ≡ piece (s .cdp) j
-  unfolding frameOf headerOf piece
+  unfolding frameOf dataHeader piece
   frame-is s j c e i =
       encode
       (record {

@@ -2,27 +2,24 @@
 use Prim.Native.Nat.{ℕ}
 use mathlib.Core.List.{List}
 use mathlib.Core.Bool.{true, false}
+use mathlib.Core.Logic.{_⊎_}
 use mathlib.Core.Path.{_≡_}
 use lib.ListN.{length}
 use Rattle.frame.specs.Format.{DATA, encode}
-use Rattle.frame.specs.Write.{writable}
+use Rattle.frame.specs.Write.{writable, handing}
 use Rattle.frame.specs.RoundTrip.{InRange}
 use Rattle.frame.specs.declared.types.Header.{Header}
 use Rattle.sender.specs.Record.{holdsOf}
 use Rattle.sender.specs.Transmit.{lentOf, frameOf, nextOf}
-use Rattle.sender.specs.Transmit as transmit
+use Rattle.sender.specs.Answer.{endedOf}
 use Rattle.sender.specs.declared.types.Sender.{Sender}
-use Rattle.receiver.specs.Arrival.{arrivalOf}
-use Rattle.receiver.specs.Arrival as arrival
+use Rattle.sender.proofs.Held.{Held}
+use Rattle.sender.proofs.Shape.{Shape, ack-shape, nak-shape, timeout-shape, cut-shape, loss-shape}
+use Rattle.receiver.specs.DataFrame.{arrivalOf, storing}
+use Rattle.receiver.specs.DataFrame as receiver
 use Rattle.receiver.specs.declared.types.Receiver.{Receiver}
-use Rattle.link.specs.Ports.{Told, Signal, Ports, tells, signalled}
-
--- the answers and ends that the link tells the sending port
-pub data OnLink : Signal → Type 0 where
-  ack : OnLink Signal.ack
-  nak : OnLink Signal.nak
-  timeout : OnLink Signal.timeout
-  cut : OnLink Signal.cut
+use Rattle.link.specs.Ports.{Signal, Ports, signalled}
+use Rattle.link.proofs.Others.{Steady}
 
 -- a DATA frame for the receiving record r
 pub record Addressed (τ : ℕ) (h : Header) (r : Receiver) : Type 0 where
@@ -37,17 +34,23 @@ pub record Simulates (P : Ports) (tptt : ℕ) : Type 1 where
   pub SendsAs : P .Sending → Sender → Type 0
   pub TakesAs : P .Receiving → Receiver → Type 0
   pub asks-as : (x : P .Sending) (s : Sender) (d out : List ℕ) → SendsAs x s → lentOf s (length d) ≡ true →
-      SendsAs (P .ask x d out .left) (nextOf s d out .sender) × (P .ask x d out .told ≡ tells (nextOf s d out .report)) × (P .ask x d out .lent ≡ transmit.after (nextOf s d out .report) (frameOf s d) out)
-  pub signals-as : (g : Signal) → OnLink g → (x : P .Sending) (s : Sender) → SendsAs x s → holdsOf s ≡ true →
-      SendsAs (P .signal g x .left) (signalled g s .sender) × (P .signal g x .told ≡ tells (signalled g s .report))
-  pub arrives-as : (y : P .Receiving) (r : Receiver) (h : Header) (iu b : List ℕ) → TakesAs y r → arrival.lentOf r (length b) ≡ true → r .ended ≡ false →
+      SendsAs (P .ask x d out .left) (nextOf s d out .left) × (P .ask x d out .says ≡ nextOf s d out .says) × (P .ask x d out .lent ≡ handing (nextOf s d out .says) (frameOf s d) out)
+  pub signals-as : (g : Signal) (x : P .Sending) (s : Sender) → SendsAs x s → holdsOf s ≡ true →
+      SendsAs (P .signal g x .left) (signalled g s .left) × (P .signal g x .says ≡ signalled g s .says)
+  pub arrives-as : (y : P .Receiving) (r : Receiver) (h : Header) (iu b : List ℕ) → TakesAs y r → receiver.lentOf r (length b) ≡ true → r .ended ≡ false →
       Addressed tptt h r → writable h (length iu) ≡ true →
-      TakesAs (P .arrive y (encode h iu) b .left) (arrivalOf r (h .offset) (h .flags .cdp) (length iu) (length b) .receiver) ×
-      (P .arrive y (encode h iu) b .lent ≡ arrival.after (arrivalOf r (h .offset) (h .flags .cdp) (length iu) (length b) .arrival) (h .offset) iu b)
+      TakesAs (P .receiveCall (P .arrival (encode h iu)) y b .left) (arrivalOf r (h .offset) (h .flags .cdp) (length iu) (length b) .left) ×
+      (P .receiveCall (P .arrival (encode h iu)) y b .lent ≡ storing (arrivalOf r (h .offset) (h .flags .cdp) (length iu) (length b) .says) (h .offset) iu b)
   -- a refusal changes nothing
-  pub ask-refused : (x : P .Sending) (d out : List ℕ) → P .ask x d out .told ≡ Told.refused → P .ask x d out .left ≡ x
-  pub signal-refused : (g : Signal) (x : P .Sending) → P .signal g x .told ≡ Told.refused → P .signal g x .left ≡ x
-  pub arrive-refused : (y : P .Receiving) (f b : List ℕ) → P .arrive y f b .told ≡ Told.refused → P .arrive y f b .left ≡ y
-  pub lose-refused : (y : P .Receiving) → P .lose y .told ≡ Told.refused → P .lose y .left ≡ y
-  pub send-call-refused : (c : P .SendCall) (x : P .Sending) → P .sendCall c x .told ≡ Told.refused → P .sendCall c x .left ≡ x
-  pub receive-call-refused : (c : P .ReceiveCall) (y : P .Receiving) → P .receiveCall c y .told ≡ Told.refused → P .receiveCall c y .left ≡ y
+  pub steady : Steady P
+  -- a RESPONSE at the sending port leaves its record or ends it; a RESPONSE or a nexus loss at the receiving port leaves its buffer
+  pub late-sends : (c : P .SendCall) → P .SendLate c → (x : P .Sending) (s : Sender) → SendsAs x s → holdsOf s ≡ true → SendsAs (P .sendCall c x .left) s ⊎ SendsAs (P .sendCall c x .left) (endedOf s)
+  pub late-receives : (c : P .ReceiveCall) → P .ReceiveLate c → (y : P .Receiving) (b : List ℕ) → P .receiveCall c y b .lent ≡ b
+
+-- no signal changes the transfer
+pub signal-shape : (g : Signal) (s : Sender) → Held s → Shape s (s .next) (signalled g s)
+signal-shape Signal.ack s h = ack-shape s h
+signal-shape Signal.nak s h = nak-shape s h
+signal-shape Signal.timeout s h = timeout-shape s h
+signal-shape Signal.cut s h = cut-shape s h
+signal-shape Signal.loss s h = loss-shape s h

@@ -1,45 +1,38 @@
--- The write command's worked runs and the tables of XFER_RDYs, by computation.
+-- The write command's worked runs, by computation and the theorem.
 use mathlib.Core.Logic.{inl, inr}
-use mathlib.Core.Path.{_≡_, refl}
+use mathlib.Core.Path.{refl}
 use native.Mathlib.Omega.{arith}
 use lib.ListN.{replicate}
-use Rattle.status.specs.Pick.{pick}
-use Rattle.transfer.specs.Limits.{limits, limitsHold}
 use Rattle.frame.specs.XferRdy.{xferRdyBytes}
 use Rattle.frame.specs.XferRdy as frame
-use Rattle.initiator.specs.WriteRecord.{setUpOf}
 use Rattle.initiator.specs.WriteRecord as initiator
-use Rattle.initiator.specs.WriteSend.{nextOf, loweredOf, answerableOf}
-use Rattle.initiator.specs.WriteSend as send
-use Rattle.initiator.specs.WriteTake.{roleOf, fitsOf, verdictOf, burstTaken, xferRdyTaken, responseOf, framedOf, arrivedOf}
+use Rattle.initiator.specs.WriteSend.{lentOf, begunOf, nextOf, countedOf, answeredOf}
+use Rattle.initiator.specs.WriteTake.{fitsOf, verdictOf, nextTaken, burstTaken, xferRdyTaken, responseOf, writeArrivalOf}
 use Rattle.target.specs.Tag.{member, search, lowest, used}
 use Rattle.target.specs.Record as target
-use Rattle.target.specs.Transmit.{dueOf, burstOf, issuedOf, headerOf, iuOf, frameOf, handsOf}
+use Rattle.target.specs.Transmit.{dueOf, burstOf, issuedOf, xferRdyHeader, xferRdyIu, frameOf}
 use Rattle.target.specs.Transmit as issue
-use Rattle.target.specs.Answer as answer
-use Rattle.target.specs.Arrival.{screenOf, takenOf}
+use Rattle.target.specs.Answer.{retryOf, answersOf}
+use Rattle.target.specs.Arrival.{takenOf}
 use Rattle.target.specs.Arrival as taking
-use Rattle.link.specs.World.{run, Allowed}
+use Rattle.link.specs.World.{Allowed}
 use Rattle.link.specs.Claim.{Starts, Alike}
 use Rattle.link.specs.Writing.{writePorts}
 use Rattle.link.specs.Worked.{ten}
-use Rattle.link.specs.WorkedWrite.{host, device, firstStart, firstBurst, firstEvents, FirstDelivered, secondStart, secondBurst, secondEvents, SecondDelivered, ready, half, sentFirst, filledFirst, Command, Crossing, Tags}
-use Rattle.link.proofs.Theorem.{delivery}
-use Rattle.link.proofs.Worked.{given, _then_, computed}
+use Rattle.link.specs.WorkedWrite.{host, device, ready, half, burst, firstStart, firstEvents, FirstDelivered, sentFirst, filledFirst, secondStart, secondTransfer, secondLate, secondEvents, SecondDelivered, Command, unheard, resentStart, resentTransfer, resentEvents, ResentDelivered, Resent}
+use Rattle.link.proofs.Worked.{given, _then_, worked, computed}
 
 -- all that a write computes with
-computed-write : Unit {0}
-unfolding computed frame.xferRdyOf xferRdyBytes setUpOf initiator.tests initiator.holdsOf nextOf send.lentOf loweredOf answerableOf roleOf fitsOf verdictOf burstTaken xferRdyTaken responseOf framedOf arrivedOf member search lowest used target.tests target.holdsOf target.setUpOf dueOf burstOf issuedOf headerOf iuOf frameOf handsOf issue.nextOf answer.answerableOf answer.retryOf screenOf takenOf taking.framedOf taking.lentOf taking.arrivedOf firstStart firstEvents secondStart secondEvents
+unfoldable pub computed-write : Unit {0}
+unfolding computed frame.xferRdyOf xferRdyBytes initiator.tests initiator.holdsOf lentOf begunOf nextOf countedOf answeredOf fitsOf verdictOf nextTaken burstTaken xferRdyTaken responseOf writeArrivalOf member search lowest used target.tests target.holdsOf dueOf burstOf issuedOf xferRdyHeader xferRdyIu frameOf issue.nextOf retryOf answersOf takenOf taking.lentOf taking.writeArrivalOf firstStart firstEvents secondStart secondTransfer secondLate resentStart resentTransfer
 computed-write = tt
 
 alike : Alike host device
 alike = record { count = refl; size = refl; window = refl; limit = refl; there = refl; back = refl; tag = refl; tag-bits = omega arith }
 
-first-starts : Starts writePorts firstBurst firstStart
+first-starts : Starts writePorts (burst 0 5) firstStart
 unfolding computed-write
-first-starts =
-    Starts.write (initiator.startOf host) (target.startOf device) ready ten (replicate 10 0xff) 36 0
-    refl refl refl alike (omega arith) refl refl refl refl refl
+first-starts = Starts.write (initiator.startOf host) (target.startOf device) ready ten (replicate 10 0xff) 36 refl refl refl alike (omega arith) refl refl refl refl refl
 
 first-allowed : Allowed firstStart firstEvents
 unfolding computed-write
@@ -47,50 +40,30 @@ first-allowed = tt then tt then tt then tt then tt then tt then tt
 
 first-delivered : FirstDelivered
 unfolding computed-write
-first-delivered =
-    record {
-      starts = first-starts;
-      allowed = first-allowed;
-      reports = refl;
-      receives = refl;
-      suffers = refl;
-      counts = refl;
-      hands-out = refl;
-      concludes = inl (given {n = 2} (inl refl));
-      claims = delivery writePorts firstBurst firstStart first-starts firstEvents first-allowed;
-    }
+first-delivered = worked first-starts first-allowed refl refl refl refl refl (inl (given {n = 2} (inl refl)))
 
-second-starts : Starts writePorts secondBurst secondStart
+second-starts : Starts writePorts (burst 5 10) secondStart
 unfolding computed-write
-second-starts = Starts.write sentFirst filledFirst ready ten half 36 2 refl refl refl alike (omega arith) refl refl refl refl refl
+second-starts = Starts.write sentFirst filledFirst ready ten half 36 refl refl refl alike (omega arith) refl refl refl refl refl
 
 second-allowed : Allowed secondStart secondEvents
 unfolding computed-write
 second-allowed =
-    inl refl then inr (refl, refl, refl) then inl refl then inl refl then
+    inl (inl refl) then inl (inr (refl, refl, refl)) then inl (inl refl) then inl (inl refl) then
     tt then tt then tt then tt then tt then tt then
-    inl refl then inl refl then
+    inl (inl refl) then inl (inl refl) then
     tt then
     tt then tt then tt then tt then tt then tt then
     tt then tt then tt then tt then
-    tt then tt then tt then inl refl then tt then
+    tt then tt then tt then inl (inl refl) then tt then
     tt then tt then
-    inl refl then tt then tt
+    inl (inl refl) then tt then
+    inr (given {n = 8} (inl refl), refl) then tt then
+    inr (given {n = 8} (inl refl), tt) then inl (inl refl) then tt
 
 second-delivered : SecondDelivered
 unfolding computed-write
-second-delivered =
-    record {
-      starts = second-starts;
-      allowed = second-allowed;
-      reports = refl;
-      receives = refl;
-      suffers = refl;
-      counts = refl;
-      hands-out = refl;
-      concludes = inl (given {n = 8} (inl refl));
-      claims = delivery writePorts secondBurst secondStart second-starts secondEvents second-allowed;
-    }
+second-delivered = worked second-starts second-allowed refl refl refl refl refl (inl (given {n = 8} (inl refl)))
 
 pub command : Command
 unfolding computed-write
@@ -110,34 +83,30 @@ command =
       eight = refl;
       seven = refl;
       one = refl;
+      ends = refl;
+      loses = refl;
+      ended-host = refl;
+      ended-device = refl;
       first-tags = refl;
       second-tags = refl;
     }
 
-pub crossing : Crossing
+resent-starts : Starts writePorts (burst 5 10) resentStart
 unfolding computed-write
-crossing =
-    record {
-      opens = refl;
-      resends-one = refl;
-      resends-both = refl;
-      taken = refl;
-      answers = refl;
-      nak-lowers = refl;
-      ack-lowers = refl;
-      nak-starts = refl;
-      ack-starts = refl;
-      timeout-starts = refl;
-      cut-starts = refl;
-      carries = refl;
-      too-early = refl;
-      once-is-enough = refl;
-      again = refl;
-      again-later = refl;
-      again-pending = refl;
-      not-again = refl;
-    }
+resent-starts = Starts.write sentFirst unheard ready ten half 36 refl refl refl alike (omega arith) refl refl refl refl refl
 
-pub tags : Tags
+resent-allowed : Allowed resentStart resentEvents
 unfolding computed-write
-tags = record { resent = refl; freed = refl }
+resent-allowed =
+    inl (inl refl) then
+    tt then tt then tt then tt then tt then tt then
+    tt then tt then tt then tt then tt then tt then
+    inr (given {n = 4} (inl refl), tt) then tt
+
+resent-delivered : ResentDelivered
+unfolding computed-write
+resent-delivered = worked resent-starts resent-allowed refl refl refl refl refl (inl (given {n = 4} (inl refl)))
+
+pub resent : Resent
+unfolding computed-write
+resent = record { times-out = refl; asks-again = refl; takes = refl; delivered = resent-delivered; tags = refl; loses = refl }

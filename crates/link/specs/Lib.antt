@@ -1,7 +1,11 @@
 pub mod Ports
+pub mod Tally
 pub mod World
+pub mod Delivers
 pub mod Reading
 pub mod Writing
 pub mod Claim
 pub mod Worked
+pub mod WorkedFaults
 pub mod WorkedWrite
+pub mod WorkedCrossing

@@ -1,50 +1,85 @@
 -- A read's ports: the target's sending port and the initiator's receiving port.
 use Prim.Native.Nat.{ℕ}
-use mathlib.Core.List.{List, []}
-use lib.ListN.{length}
-use Rattle.status.specs.declared.Refusal.{Refusal}
-use Rattle.frame.specs.Read.{headerOf, iuOf}
+use mathlib.Core.List.{List}
+use mathlib.Core.Bool.{Bool}
+use mathlib.Core.Path.{_≡_}
+use lib.ListN.{length, getD}
+use Rattle.status.specs.Answer.{Left}
+use Rattle.frame.specs.Format.{RESPONSE}
+use Rattle.frame.specs.Read.{headerIn, iuOf}
+use Rattle.frame.specs.Write.{handing}
 use Rattle.sender.specs.Transmit.{nextOf, frameOf}
-use Rattle.sender.specs.Transmit as transmit
 use Rattle.sender.specs.declared.types.Sender.{Sender}
+use Rattle.receiver.specs.DataFrame.{arrivalOf, storing}
+use Rattle.receiver.specs.Record as receiver
 use Rattle.receiver.specs.declared.types.Receiver.{Receiver}
-use Rattle.receiver.specs.declared.types.Arrival.{Arrival}
-use Rattle.initiator.specs.Read.{readOf}
-use Rattle.initiator.specs.Read as initiator
-use Rattle.initiator.specs.declared.types.ReadAnswer.{ReadAnswer}
+use Rattle.initiator.specs.Read.{readArrivalOf, readLossOf}
 use Rattle.target.specs.Read as target
-use Rattle.link.specs.Ports.{Told, Ports, NoCall, noCall, tells, signalled}
+use Rattle.target.specs.ReadSend.{readNextOf, readAckOf, readNakOf, readTimeoutOf, readCutOf, readLossOf as sendingLossOf}
+use Rattle.link.specs.Ports.{Called, lending, Signal, Ports, signalled}
 
--- the initiator's answers as the link hears them
-abbrev pub heard : Arrival → Told
-heard (Arrival.Refused why) = Told.refused
-heard (Arrival.Failed why) = Told.quiet
-heard Arrival.Discarded = Told.quiet
-heard Arrival.Stored = Told.quiet
-heard Arrival.Received = Told.quiet
+-- a frame of type RESPONSE
+abbrev pub IsResponse : List ℕ → Type 0
+IsResponse f = getD f 0 0 ≡ RESPONSE
 
-abbrev pub hears : ReadAnswer → Told
-hears (ReadAnswer.Arrival a) = heard a
-hears (ReadAnswer.Response start len) = Told.quiet
+abbrev pub readSignalled : Signal → Sender → Left Sender
+readSignalled Signal.ack s = readAckOf s
+readSignalled Signal.nak s = readNakOf s
+readSignalled Signal.timeout s = readTimeoutOf s
+readSignalled Signal.cut s = readCutOf s
+readSignalled Signal.loss s = sendingLossOf s
 
--- a refusal, whichever its number
-abbrev pub refusedAs : Refusal → Told
-refusedAs r = Told.refused
+-- the read's sending record besides: arrivals of any bytes at the target, each refused; the sending port's own entry points
+pub data SenderCall : Type 0 where
+  bytes : List ℕ → SenderCall
+  core-ask : List ℕ → List ℕ → SenderCall
+  core-signal : Signal → SenderCall
+
+abbrev pub senderCall : SenderCall → Sender → Left Sender
+senderCall (SenderCall.bytes f) s = target.readArrivalOf s f
+senderCall (SenderCall.core-ask d out) s = nextOf s d out
+senderCall (SenderCall.core-signal g) s = signalled g s
+
+abbrev pub SenderLate : SenderCall → Type 0
+SenderLate (SenderCall.bytes f) = IsResponse f
+SenderLate (SenderCall.core-ask d out) = ⊥
+SenderLate (SenderCall.core-signal Signal.loss) = Unit {0}
+SenderLate (SenderCall.core-signal Signal.ack) = ⊥
+SenderLate (SenderCall.core-signal Signal.nak) = ⊥
+SenderLate (SenderCall.core-signal Signal.timeout) = ⊥
+SenderLate (SenderCall.core-signal Signal.cut) = ⊥
+
+-- the read's receiving record: arrivals and nexus loss at the initiator, and the receiving port's own entry points
+pub data ReaderCall : Type 0 where
+  bytes : List ℕ → ReaderCall
+  loss : ReaderCall
+  core-data : ℕ → Bool → List ℕ → ReaderCall
+  core-loss : ReaderCall
+
+abbrev pub readerCall : ReaderCall → Receiver → List ℕ → Called Receiver
+readerCall (ReaderCall.bytes f) r b = let x = readArrivalOf r f (length b) in lending x (storing (x .says) (headerIn f .offset) (iuOf f) b)
+readerCall ReaderCall.loss r b = lending (readLossOf r) b
+readerCall (ReaderCall.core-data offset cdp iu) r b = let x = arrivalOf r offset cdp (length iu) (length b) in lending x (storing (x .says) offset iu b)
+readerCall ReaderCall.core-loss r b = lending (receiver.lossOf r) b
+
+abbrev pub ReaderLate : ReaderCall → Type 0
+ReaderLate (ReaderCall.bytes f) = IsResponse f
+ReaderLate ReaderCall.loss = Unit {0}
+ReaderLate (ReaderCall.core-data offset cdp iu) = ⊥
+ReaderLate ReaderCall.core-loss = Unit {0}
 
 abbrev pub readPorts : Ports
 readPorts =
     record {
       Sending = Sender;
       Receiving = Receiver;
-      ask = λ s d out. let x = nextOf s d out in record { left = x .sender; told = tells (x .report); lent = transmit.after (x .report) (frameOf s d) out };
-      signal = λ g s. let x = signalled g s in record { left = x .sender; told = tells (x .report); lent = [] };
-      arrive = λ r f b. let x = readOf r f (length b) in record { left = x .receiver; told = hears (x .answer); lent = initiator.after (x .answer) (headerOf f .offset) (iuOf f) b };
-      lose = λ r. let x = initiator.lossOf r in record { left = x .receiver; told = hears (x .answer); lent = [] };
-      -- arrivals of any bytes at the target: each is refused
-      SendCall = List ℕ;
-      sendLends = λ f. [];
-      sendCall = λ f s. record { left = s; told = refusedAs (target.readOf s f); lent = [] };
-      ReceiveCall = NoCall;
-      receiveLends = λ c. noCall c;
-      receiveCall = λ c r. noCall c;
+      ask = λ s d out. let x = readNextOf s d out in lending x (handing (x .says) (frameOf s d) out);
+      signal = readSignalled;
+      SendCall = SenderCall;
+      sendCall = senderCall;
+      SendLate = SenderLate;
+      ReceiveCall = ReaderCall;
+      receiveCall = readerCall;
+      ReceiveLate = ReaderLate;
+      arrival = λ f. ReaderCall.bytes f;
     }

@@ -1,18 +1,19 @@
 -- Two worked runs of the delivery claim, of a read: the claim's premises can be met, and each of its parts says something. Proved in proofs/Worked.antt.
 use Prim.Native.Nat.{ℕ}
-use mathlib.Core.List.{List, [], _∷_}
-use mathlib.Core.Bool.{false}
+use mathlib.Core.List.{List, [], _∷_, _++_}
+use mathlib.Core.Bool.{true, false}
 use mathlib.Core.Path.{_≡_}
 use lib.ListN.{length, getD, replicate}
-use Rattle.status.specs.declared.Failure.the-variants.{AckNakTimeout}
+use Rattle.status.specs.Answer.{Said}
 use Rattle.transfer.specs.declared.Transfer.{Transfer}
 use Rattle.frame.specs.Format.{field}
-use Rattle.sender.specs.Record.{startOf}
-use Rattle.initiator.specs.Read as initiator
+use Rattle.sender.specs.Record as sender
+use Rattle.receiver.specs.Record as receiver
 use Rattle.link.specs.Ports.{Signal, Ports}
-use Rattle.link.specs.World.{World, Report, Event, ask, arrives, damaged, frame-lost, answered, answer-lost, timeout, cut, other, asking, signals, arriving, run, Allowed}
-use Rattle.link.specs.Claim.{Starts, Burst, Concluded, Delivers, fresh}
-use Rattle.link.specs.Reading.{readPorts}
+use Rattle.link.specs.World.{World, Report, Event, ask, arrives, damaged, frame-lost, answered, answer-lost, timeout, cut, other, asking, signals, at-receiver, at-receiver-in, run, Allowed}
+use Rattle.link.specs.Delivers.{Burst, Concluded, Delivers, fresh}
+use Rattle.link.specs.Claim.{Starts}
+use Rattle.link.specs.Reading.{SenderCall, ReaderCall, readerCall, readPorts}
 
 -- of each frame its data offset and byte 10, which is 1 where CDP is one
 abbrev pub pointers : List (List ℕ) → List (ℕ × ℕ)
@@ -27,7 +28,7 @@ pub record Worked {P : Ports} (b : Burst) (start : World P) (es : List (Event P)
   -- what the sending port has reported, the receiving port's buffer, the faults, the history of frames and its length
   pub reports : run start es .report ≡ report
   pub receives : run start es .received ≡ received
-  pub suffers : run start es .faults ≡ faults
+  pub suffers : run start es .tally .faults ≡ faults
   pub counts : length (run start es .handed) ≡ count
   pub hands-out : pointers (run start es .handed) ≡ handed
   -- the premise of the claim's last two parts
@@ -42,7 +43,12 @@ abbrev pub host : ℕ → ℕ → ℕ → Transfer
 host count window limit = record { write = false; count = count; size = 4; window = window; limit = limit; burst = count; local = 0x123456; remote = 0xabcdef; tag = 0x0012 }
 
 abbrev pub begin : ℕ → ℕ → ℕ → List ℕ → List ℕ → World readPorts
-begin count window limit sent received = fresh readPorts (startOf (target count window limit)) (initiator.startOf (host count window limit)) sent received
+begin count window limit sent received =
+    let t : Transfer = target count window limit in
+    fresh readPorts (sender.beginning t (sender.whole t)) (receiver.beginning (host count window limit) 0 count) sent received
+
+abbrev pub burst : ℕ → ℕ → Burst
+burst count limit = record { base = 0; end = count; size = 4; limit = limit }
 
 -- an output buffer with space for a frame
 abbrev pub space : List ℕ
@@ -56,6 +62,13 @@ foreign =
     0x00 ∷ 0x13 ∷ 0x00 ∷ 0x00 ∷ 0x00 ∷ 0x00 ∷ 0x00 ∷ 0x00 ∷
     0x77 ∷ 0x77 ∷ 0x77 ∷ 0x77 ∷ []
 
+-- the target's RESPONSE: 48 bytes, so an IU of 24
+abbrev pub response : List ℕ
+response =
+    0x07 ∷ 0x12 ∷ 0x34 ∷ 0x56 ∷ 0x00 ∷ 0xab ∷ 0xcd ∷ 0xef ∷
+    0x00 ∷ 0x00 ∷ 0x00 ∷ 0x00 ∷ 0x00 ∷ 0x00 ∷ 0x00 ∷ 0x00 ∷
+    0x00 ∷ 0x12 ∷ 0x00 ∷ 0x00 ∷ 0x00 ∷ 0x00 ∷ 0x00 ∷ 0x00 ∷ replicate 24 0x55
+
 -- Ten bytes, so three frames: at 0, at 4 and at 8. Window 3, retry limit 5.
 abbrev pub ten : List ℕ
 ten = 10 ∷ 11 ∷ 12 ∷ 13 ∷ 14 ∷ 15 ∷ 16 ∷ 17 ∷ 18 ∷ 19 ∷ []
@@ -63,11 +76,8 @@ ten = 10 ∷ 11 ∷ 12 ∷ 13 ∷ 14 ∷ 15 ∷ 16 ∷ 17 ∷ 18 ∷ 19 ∷ []
 unfoldable pub tenStart : World readPorts
 tenStart = begin 10 3 5 ten (replicate 10 0xff)
 
-abbrev pub tenBurst : Burst
-tenBurst = record { base = 0; end = 10; size = 4; limit = 5 }
-
-unfoldable pub tenEvents : List (Event readPorts)
-tenEvents =
+unfoldable pub tenTransfer : List (Event readPorts)
+tenTransfer =
     -- a cut told with none unanswered changes nothing
     other (signals Signal.cut) ∷
     -- an ACK with none unanswered: 4
@@ -82,8 +92,9 @@ tenEvents =
     frame-lost ∷
     -- the frame at 4 is discarded, the receiving port waits for CDP; its ACK comes
     arrives ∷ answered ∷
-    -- a frame with another tag: 8
-    other (arriving foreign (replicate 10 0xff)) ∷
+    -- a frame with another tag: 8; the same at a buffer of nine bytes: 1
+    other (at-receiver (ReaderCall.bytes foreign)) ∷
+    other (at-receiver-in (ReaderCall.bytes foreign) (replicate 9 0xff)) ∷
     -- a timeout, not early: the first retry; the frame at 8 is cleared
     timeout ∷
     -- frames 4 and 5: at 0 with CDP one, and 4
@@ -110,25 +121,30 @@ tenEvents =
     other (asking (replicate 9 0) space) ∷
     arrives ∷
     -- the two ACKs: delivered
-    answered ∷ answered ∷
-    -- after the end a nexus loss at the sending port is 2, and no frame is there to arrive
-    other (signals Signal.loss) ∷ arrives ∷ []
+    answered ∷ answered ∷ []
+
+unfoldable pub tenLate : List (Event readPorts)
+tenLate =
+    -- after the delivery a nexus loss at the sending port is 2, and no frame is there to arrive
+    other (signals Signal.loss) ∷ arrives ∷
+    -- the RESPONSE at the receiving port ends the command; then the nexus loss there is 2
+    other (at-receiver (ReaderCall.bytes response)) ∷ other (at-receiver ReaderCall.loss) ∷ []
+
+abbrev pub tenEvents : List (Event readPorts)
+tenEvents = tenTransfer ++ tenLate
 
 -- delivered with 11 frames, all ten bytes there; 5 faults, no more than the limit; 11 is at most 3 times 6
 abbrev pub TenDelivered : Type 1
 TenDelivered =
-    Worked tenBurst tenStart tenEvents (Report.delivered 11) ten 5 11
+    Worked (burst 10 5) tenStart tenEvents (Report.delivered 11) ten 5 11
     ((0, 0) ∷ (4, 0) ∷ (8, 0) ∷ (0, 1) ∷ (4, 0) ∷ (0, 1) ∷ (4, 0) ∷ (4, 1) ∷ (8, 0) ∷ (4, 1) ∷ (8, 0) ∷ [])
 
 -- Six bytes, so two frames: at 0 and at 4. Window 2, retry limit 1.
 unfoldable pub sixStart : World readPorts
 sixStart = begin 6 2 1 (20 ∷ 21 ∷ 22 ∷ 23 ∷ 24 ∷ 25 ∷ []) (replicate 6 0xff)
 
-abbrev pub sixBurst : Burst
-sixBurst = record { base = 0; end = 6; size = 4; limit = 1 }
-
-unfoldable pub sixEvents : List (Event readPorts)
-sixEvents =
+unfoldable pub sixTransfer : List (Event readPorts)
+sixTransfer =
     -- frames 1 and 2: at 0 and 4
     ask space ∷ ask space ∷
     -- fault 1: the frame at 0 is lost; the frame at 4 is discarded and its ACK comes
@@ -140,10 +156,30 @@ sixEvents =
     -- fault 2: its ACK is lost
     answer-lost ∷
     -- a timeout, not early: a retry beyond the limit
-    timeout ∷
+    timeout ∷ []
+
+unfoldable pub sixLate : List (Event readPorts)
+sixLate =
     -- after the end a frame asked for is 2, and so is an ACK
-    ask space ∷ other (signals Signal.ack) ∷ []
+    ask space ∷ other (signals Signal.ack) ∷
+    -- its report was given: the nexus loss at the receiving port is 31; then the RESPONSE there is 2
+    other (at-receiver ReaderCall.loss) ∷ other (at-receiver (ReaderCall.bytes response)) ∷ []
+
+abbrev pub sixEvents : List (Event readPorts)
+sixEvents = sixTransfer ++ sixLate
+
+-- the frame at 0 alone was stored
+abbrev pub sixLeft : List ℕ
+sixLeft = 20 ∷ 21 ∷ 22 ∷ 23 ∷ 0xff ∷ 0xff ∷ []
 
 -- failed with 29 and 3 frames, four bytes there and the others as they were; 2 faults, more than the limit; 3 is at most 2 times 3
 abbrev pub SixFailed : Type 1
-SixFailed = Worked sixBurst sixStart sixEvents (Report.failed AckNakTimeout 3) (20 ∷ 21 ∷ 22 ∷ 23 ∷ 0xff ∷ 0xff ∷ []) 2 3 ((0, 0) ∷ (4, 0) ∷ (0, 1) ∷ [])
+SixFailed = Worked (burst 6 1) sixStart sixEvents (Report.failed 29 3) sixLeft 2 3 ((0, 0) ∷ (4, 0) ∷ (0, 1) ∷ [])
+
+-- what the receiving port answers to the first of its late calls, which ends it
+pub record Late : Type 0 where
+  -- the IU stands at 24 and has 24 bytes; a receiving port hands out no frame
+  pub ends : readerCall (ReaderCall.bytes response) (run tenStart tenTransfer .receiving) ten .says ≡ Said.response 24 24 0
+  pub loses : readerCall ReaderCall.loss (run sixStart sixTransfer .receiving) sixLeft .says ≡ Said.failed 31 0
+  pub ended-ten : run tenStart tenEvents .receiving .ended ≡ true
+  pub ended-six : run sixStart sixEvents .receiving .ended ≡ true

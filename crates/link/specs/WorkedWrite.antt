@@ -1,33 +1,29 @@
--- A write command worked out: its two bursts over the link; an XFER_RDY that crosses resent data; the target's tags. Proved in proofs/WorkedWrite.antt.
+-- A write command worked out: its two bursts over the link, and the second again after a resent XFER_RDY. Proved in proofs/WorkedWrite.antt.
 use Prim.Native.Nat.{ℕ}
 use mathlib.Core.List.{List, [], _∷_, _++_}
 use mathlib.Core.Bool.{true, false}
 use mathlib.Core.Path.{_≡_}
-use lib.ListN.{take, replicate}
-use Rattle.status.specs.declared.Refusal.the-variants.{BadRequest, AnswerWithoutFrame, MalformedFrame, UnexpectedFrameType, WrongAddress, UnknownTag}
-use Rattle.status.specs.declared.Failure.the-variants.{XferRdyRequestedOffsetError, XferRdyNotExpected}
+use lib.ListN.{replicate}
+use Rattle.status.specs.Answer.{Taking, Said, _saying_}
+use Rattle.status.specs.Outcome.{Outcome}
 use Rattle.transfer.specs.declared.Transfer.{Transfer}
 use Rattle.frame.specs.Format.{field}
-use Rattle.sender.specs.declared.types.Report.{Report as SenderReport}
-use Rattle.receiver.specs.declared.types.Arrival.{Arrival}
+use Rattle.receiver.specs.declared.types.Receiver.{Receiver}
 use Rattle.initiator.specs.WriteRecord as initiator
 use Rattle.initiator.specs.WriteSend as send
-use Rattle.initiator.specs.WriteTake.{arrivedOf}
+use Rattle.initiator.specs.WriteTake.{writeArrivalOf}
 use Rattle.initiator.specs.declared.types.Writer.{Writer}
-use Rattle.initiator.specs.declared.types.WriteAnswer.{WriteAnswer}
-use Rattle.initiator.specs.declared.types.WriteSetup.{WriteSetup}
 use Rattle.target.specs.Record as target
 use Rattle.target.specs.Transmit.{nextOf}
-use Rattle.target.specs.Answer.{ackOf}
+use Rattle.target.specs.Answer.{ackOf, timeoutOf, lossOf}
 use Rattle.target.specs.Arrival as taking
 use Rattle.target.specs.declared.types.Target.{Target}
-use Rattle.target.specs.declared.types.Setup.{Setup}
-use Rattle.target.specs.declared.types.Report.{Report as Report′}
-use Rattle.link.specs.Ports.{Told, Left, Signal}
-use Rattle.link.specs.World.{World, Report, Event, ask, arrives, damaged, frame-lost, answered, timeout, cut, other, asking, signals, arriving, at-sender, at-receiver, run}
-use Rattle.link.specs.Claim.{Burst, fresh, xferRdyOf}
+use Rattle.link.specs.Ports.{Signal}
+use Rattle.link.specs.World.{World, Report, Event, ask, arrives, damaged, frame-lost, answered, timeout, cut, other, asking, signals, at-sender, at-receiver, at-receiver-in, run}
+use Rattle.link.specs.Delivers.{Burst, fresh}
+use Rattle.link.specs.Claim.{xferRdySent}
 use Rattle.link.specs.Writing.{TargetCall, writePorts}
-use Rattle.link.specs.Worked.{Worked, space, foreign, ten}
+use Rattle.link.specs.Worked.{Worked, space, foreign, response, ten}
 
 -- a write of ten bytes in bursts of five, four per frame, so two frames each; window 2, retry limit 3: the initiator's transfer record and the target's
 abbrev pub writing : ℕ → ℕ → Transfer
@@ -58,16 +54,20 @@ dataFrame tptt offset fill part =
     0x00 ∷ 0x00 ∷ 0x00 ∷ fill ∷ 0x00 ∷ 0x00 ∷ 0x00 ∷ 0x00 ∷
     0x00 ∷ 0x12 ∷ 0x00 ∷ tptt ∷ 0x00 ∷ 0x00 ∷ 0x00 ∷ offset ∷ part
 
+-- a DATA frame for burst 2 under another tag than its own
+abbrev pub stale : ℕ → List ℕ
+stale tptt = dataFrame tptt 5 0 (0x77 ∷ 0x77 ∷ 0x77 ∷ 0x77 ∷ [])
+
 -- where a burst starts: the target y hands out its XFER_RDY, the initiator x takes those bytes, the target gets the ACK
 abbrev pub agreed : Writer → Target → List ℕ → World writePorts
-agreed x y received = fresh writePorts (arrivedOf x (xferRdyOf y ready 36) .writer) (ackOf (nextOf y ready .target) .target) ten received
+agreed x y received = fresh writePorts (writeArrivalOf x (xferRdySent y ready 36) .left) (ackOf (nextOf y ready .left) .left) ten received
+
+abbrev pub burst : ℕ → ℕ → Burst
+burst base end = record { base = base; end = end; size = 4; limit = 3 }
 
 -- Burst 1, from set-up: frames at 0 and 4, no fault.
 unfoldable pub firstStart : World writePorts
 firstStart = agreed (initiator.startOf host) (target.startOf device) (replicate 10 0xff)
-
-abbrev pub firstBurst : Burst
-firstBurst = record { base = 0; end = 5; size = 4; limit = 3 }
 
 unfoldable pub firstEvents : List (Event writePorts)
 firstEvents = ask space ∷ ask space ∷ arrives ∷ arrives ∷ answered ∷ answered ∷ []
@@ -76,7 +76,7 @@ abbrev pub half : List ℕ
 half = 10 ∷ 11 ∷ 12 ∷ 13 ∷ 14 ∷ 0xff ∷ 0xff ∷ 0xff ∷ 0xff ∷ 0xff ∷ []
 
 abbrev pub FirstDelivered : Type 1
-FirstDelivered = Worked firstBurst firstStart firstEvents (Report.delivered 2) half 0 2 ((0, 0) ∷ (4, 0) ∷ [])
+FirstDelivered = Worked (burst 0 5) firstStart firstEvents (Report.delivered 2) half 0 2 ((0, 0) ∷ (4, 0) ∷ [])
 
 -- the initiator's record with no burst pending: its burst's TPTT, base and end; next and furthest offset; unanswered, retries and frames
 abbrev pub writer : ℕ → ℕ → ℕ → ℕ → ℕ → ℕ → ℕ → ℕ → Writer
@@ -85,10 +85,7 @@ writer tptt base end next reached unanswered retries frames =
       sender =
           record {
             transfer = host;
-            limit = 3;
-            tptt = tptt;
-            base = base;
-            end = end;
+            burst = record { base = base; end = end; tptt = tptt; limit = 3 };
             next = next;
             balance = base;
             unanswered = unanswered;
@@ -100,48 +97,30 @@ writer tptt base end next reached unanswered retries frames =
           };
       reached = reached;
       pending = false;
-      base = 0;
-      end = 0;
-      tptt = 0;
-      limit = 0;
+      taken = record { base = 0; end = 0; tptt = 0; limit = 0 };
     }
 
--- the records as burst 1 leaves them
+-- the target's receiving port: a burst whose expected offset and filled mark are the same
+abbrev pub filled : ℕ → ℕ → ℕ → Receiver
+filled base end mark = record { transfer = device; base = base; end = end; expected = mark; filled = mark; waiting = false; ended = false }
+
+-- the records as burst 1 leaves them; the XFER_RDY had its ACK
 abbrev pub sentFirst : Writer
 sentFirst = writer 0 0 5 5 5 0 0 2
 
 abbrev pub filledFirst : Target
-filledFirst =
-    record {
-      receiver = record { transfer = device; base = 0; end = 5; expected = 5; filled = 5; waiting = false; ended = false };
-      issued = true;
-      tptt = 0;
-      unanswered = false;
-      again = false;
-      ready = true;
-      retries = 0;
-      stored = true;
-      under = 0;
-      since = 0;
-    }
+filledFirst = record { receiver = filled 0 5 5; state = 3; tptt = 0; retries = 0; stored = true; under = 0; since = 0 }
 
 -- Burst 2, from there: frames at 5 and 9.
 unfoldable pub secondStart : World writePorts
 secondStart = agreed sentFirst filledFirst half
 
-abbrev pub secondBurst : Burst
-secondBurst = record { base = 5; end = 10; size = 4; limit = 3 }
-
--- a DATA frame under burst 1's tag, 0
-abbrev pub stale : List ℕ
-stale = dataFrame 0 5 0 (0x77 ∷ 0x77 ∷ 0x77 ∷ 0x77 ∷ [])
-
-unfoldable pub secondEvents : List (Event writePorts)
-secondEvents =
+unfoldable pub secondTransfer : List (Event writePorts)
+secondTransfer =
     -- an ACK for the XFER_RDY with none unanswered: 4
     other (at-receiver (TargetCall.signals Signal.ack)) ∷
     -- the target is asked for an XFER_RDY while burst 2 is not filled: "wait"
-    other (at-receiver (TargetCall.asking ready)) ∷
+    other (at-receiver-in TargetCall.asking ready) ∷
     -- DATA at the initiator: 6; so few bytes: 5
     other (at-sender foreign) ∷ other (at-sender (0x05 ∷ [])) ∷
     -- frames 1 and 2: at 5 and 9; then the window is full and the end is reached: "wait"
@@ -151,7 +130,7 @@ secondEvents =
     -- the frame at 9 is discarded, the target waits for CDP; its ACK comes
     arrives ∷ answered ∷
     -- a frame under the tag of burst 1, and one that is not for the target: 8 and 7
-    other (arriving stale half) ∷ other (arriving foreign half) ∷
+    other (at-receiver (TargetCall.bytes (stale 0))) ∷ other (at-receiver (TargetCall.bytes foreign)) ∷
     -- a timeout, not early: the first retry
     timeout ∷
     -- frames 3 and 4: at 5 with CDP one, and 9; the first is stored
@@ -172,10 +151,20 @@ secondEvents =
     -- a write burst's delivery ends nothing: an ACK is 4, a frame asked for "wait"
     other (signals Signal.ack) ∷ ask space ∷ []
 
+unfoldable pub secondLate : List (Event writePorts)
+secondLate =
+    -- the RESPONSE at the initiator ends the command: a frame asked for is 2
+    other (at-sender response) ∷ ask space ∷
+    -- the nexus loss at the target is 31; then a frame is 2
+    other (at-receiver (TargetCall.signals Signal.loss)) ∷ other (at-receiver (TargetCall.bytes (stale 0))) ∷ []
+
+abbrev pub secondEvents : List (Event writePorts)
+secondEvents = secondTransfer ++ secondLate
+
 -- delivered with 8 frames, all bytes there, those of burst 1 as they were; 3 faults, no more than the limit; 8 is 2 times 4
 abbrev pub SecondDelivered : Type 1
 SecondDelivered =
-    Worked secondBurst secondStart secondEvents (Report.delivered 8) ten 3 8
+    Worked (burst 5 10) secondStart secondEvents (Report.delivered 8) ten 3 8
     ((5, 0) ∷ (9, 0) ∷ (5, 1) ∷ (9, 0) ∷ (5, 1) ∷ (9, 0) ∷ (5, 1) ∷ (9, 0) ∷ [])
 
 -- of each frame its TPTT
@@ -185,123 +174,67 @@ tagsOf (f ∷ fs) = field f 18 2 ∷ tagsOf fs
 
 -- the command: its set-up at both ends, its XFER_RDYs, its bursts
 pub record Command : Type 1 where
-  pub sets-up-host : initiator.setUpOf host ≡ WriteSetup.Ready (initiator.startOf host)
-  pub sets-up-device : target.setUpOf device ≡ Setup.Ready (target.startOf device)
+  pub sets-up-host : initiator.setUpWriteOf host ≡ Outcome.value (initiator.startOf host)
+  pub sets-up-device : target.setUpWriteOf device ≡ Outcome.value (target.startOf device)
   -- RETRY DATA FRAMES one; TPTT 0 at offset 0, then TPTT 1 at offset 5
-  pub asks-first : xferRdyOf (target.startOf device) ready 36 ≡ xferRdy 4 0 0
-  pub asks-second : xferRdyOf filledFirst ready 36 ≡ xferRdy 4 1 5
+  pub asks-first : xferRdySent (target.startOf device) ready 36 ≡ xferRdy 4 0 0
+  pub asks-second : xferRdySent filledFirst ready 36 ≡ xferRdy 4 1 5
   pub first : FirstDelivered
   pub leaves-writer : run firstStart firstEvents .sending ≡ sentFirst
   pub leaves-target : run firstStart firstEvents .receiving ≡ filledFirst
   pub second : SecondDelivered
   -- the numbers of the calls refused among its events, here where burst 2 starts: 4, 6, 5, 8, 7, 1
-  pub four : ackOf (secondStart .receiving) .report ≡ Report′.Refused AnswerWithoutFrame
-  pub six : arrivedOf (secondStart .sending) foreign .answer ≡ WriteAnswer.Refused UnexpectedFrameType
-  pub five : arrivedOf (secondStart .sending) (0x05 ∷ []) .answer ≡ WriteAnswer.Refused MalformedFrame
-  pub eight : taking.arrivedOf (secondStart .receiving) stale 10 .arrival ≡ Arrival.Refused UnknownTag
-  pub seven : taking.arrivedOf (secondStart .receiving) foreign 10 .arrival ≡ Arrival.Refused WrongAddress
-  pub one : send.nextOf (secondStart .sending) (replicate 9 0) space .report ≡ SenderReport.Refused BadRequest
+  pub four : ackOf (secondStart .receiving) .says ≡ Said.refused 4
+  pub six : writeArrivalOf (secondStart .sending) foreign .says ≡ Said.refused 6
+  pub five : writeArrivalOf (secondStart .sending) (0x05 ∷ []) .says ≡ Said.refused 5
+  pub eight : taking.writeArrivalOf (secondStart .receiving) (stale 0) 10 .says ≡ Said.refused 8
+  pub seven : taking.writeArrivalOf (secondStart .receiving) foreign 10 .says ≡ Said.refused 7
+  pub one : send.nextOf (secondStart .sending) (replicate 9 0) space .says ≡ Said.refused 1
+  -- the late calls: the RESPONSE's IU of 24 bytes stands at 24, after 8 frames; 31
+  pub ends : writeArrivalOf (run secondStart secondTransfer .sending) response .says ≡ Said.response 24 24 8
+  pub loses : lossOf (run secondStart secondTransfer .receiving) .says ≡ Said.failed 31 0
+  -- both records have ended with them
+  pub ended-host : run secondStart secondEvents .sending .sender .ended ≡ true
+  pub ended-device : run secondStart secondEvents .receiving .receiver .ended ≡ true
   -- each frame carries the TPTT of its burst's XFER_RDY
   pub first-tags : tagsOf (run firstStart firstEvents .handed) ≡ 0 ∷ 0 ∷ []
   pub second-tags : tagsOf (run secondStart secondEvents .handed) ≡ replicate 8 1
 
--- XFER_RDYs at either port, without a link. A list of calls at a port: the record it leaves, its answers, the frames it hands out.
-abbrev pub calls : {X : Type 0} → X → List (X → Left X) → X
-calls x [] = x
-calls x (c ∷ cs) = calls (c x .left) cs
+-- Burst 2 where its XFER_RDY, with TPTT 1, was handed out and never reached the initiator: after the timeout it is to be sent again, the first retry.
+abbrev pub unheard : Target
+unheard = record { receiver = filled 5 10 5; state = 2; tptt = 1; retries = 1; stored = true; under = 0; since = 1 }
 
-abbrev pub said : {X : Type 0} → X → List (X → Left X) → List Told
-said x [] = []
-said x (c ∷ cs) = c x .told ∷ said (c x .left) cs
+unfoldable pub resentStart : World writePorts
+resentStart = agreed sentFirst unheard half
 
-abbrev pub frameIn : Told → List ℕ → List (List ℕ)
-frameIn (Told.frame n) out = take n out ∷ []
-frameIn Told.refused out = []
-frameIn Told.quiet out = []
-frameIn Told.wait out = []
-frameIn (Told.delivered n) out = []
-frameIn (Told.failed f n) out = []
+unfoldable pub resentTransfer : List (Event writePorts)
+resentTransfer =
+    -- a frame under the first XFER_RDY's tag: 8
+    other (at-receiver (TargetCall.bytes (stale 1))) ∷
+    -- frames 1 and 2: at 5 and 9; the first is stored and its ACK comes
+    ask space ∷ ask space ∷ arrives ∷ answered ∷
+    -- fault 1: the frame at 9 is lost
+    frame-lost ∷
+    -- a timeout, not early: the first retry, from 5
+    timeout ∷
+    -- frames 3 and 4: at 5 with CDP one, and 9; both are stored; the two ACKs: delivered
+    ask space ∷ ask space ∷ arrives ∷ arrives ∷ answered ∷ answered ∷ []
 
-abbrev pub framesOf : {X : Type 0} → X → List (X → Left X) → List (List ℕ)
-framesOf x [] = []
-framesOf x (c ∷ cs) = frameIn (c x .told) (c x .lent) ++ framesOf (c x .left) cs
+-- then a nexus loss at the initiator: 31, which changes nothing of the first report
+abbrev pub resentEvents : List (Event writePorts)
+resentEvents = resentTransfer ++ (other (signals Signal.loss) ∷ [])
 
--- at the initiator: a frame asked for, an answer, an arrival
-abbrev pub asks : Writer → Left Writer
-asks w = writePorts .ask w ten space
+-- delivered with 4 frames, all bytes there; 1 fault; 4 is 2 times 2
+abbrev pub ResentDelivered : Type 1
+ResentDelivered = Worked (burst 5 10) resentStart resentEvents (Report.delivered 4) ten 1 4 ((5, 0) ∷ (9, 0) ∷ (5, 1) ∷ (9, 0) ∷ [])
 
-abbrev pub hears : Signal → Writer → Left Writer
-hears = writePorts .signal
-
-abbrev pub takes : List ℕ → Writer → Left Writer
-takes = writePorts .sendCall
-
--- the first of burst 1's two frames is handed out; then the second, a timeout, the first again; then the second again: two unanswered
-abbrev pub opened : Writer
-opened = writer 0 0 5 4 4 1 0 1
-
-abbrev pub resentOne : Writer
-resentOne = writer 0 0 5 4 5 1 1 3
-
-abbrev pub resentBoth : Writer
-resentBoth = writer 0 0 5 5 5 2 1 4
-
--- burst 2 is pending, with its TPTT: burst 1 has so many frames unanswered, one retry, four frames handed out
-abbrev pub crossed : ℕ → ℕ → Writer
-crossed unanswered tptt = initiator.pendingOf (writer 0 0 5 5 5 unanswered 1 4) 5 10 tptt 3
-
--- burst 2 has started, with its TPTT: next offset 5, its base; nothing unanswered, no retry, no frame
-abbrev pub started : ℕ → Writer
-started tptt = writer tptt 5 10 5 5 0 0 0
-
--- the XFER_RDY for burst 2 crosses burst 1's resent data
-pub record Crossing : Type 0 where
-  -- burst 1 from set-up
-  pub opens : calls (initiator.startOf host) (takes (xferRdy 4 0 0) ∷ asks ∷ []) ≡ opened
-  pub resends-one : calls opened (asks ∷ hears Signal.timeout ∷ asks ∷ []) ≡ resentOne
-  pub resends-both : calls resentOne (asks ∷ []) ≡ resentBoth
-  -- the XFER_RDY is taken, after four frames; burst 2 is pending
-  pub taken : arrivedOf resentBoth (xferRdy 4 1 5) ≡ record { writer = crossed 2 1; answer = WriteAnswer.XferRdy 4 }
-  -- "till then wait", and the answers report nothing; then a frame
-  pub answers : said (crossed 2 1) (asks ∷ hears Signal.nak ∷ asks ∷ hears Signal.ack ∷ asks ∷ []) ≡ Told.wait ∷ Told.quiet ∷ Told.wait ∷ Told.quiet ∷ Told.frame 28 ∷ []
-  -- "answers, timeout or cut only lower or clear the count, with no retry and no failure"
-  pub nak-lowers : hears Signal.nak (crossed 2 1) .left ≡ crossed 1 1
-  pub ack-lowers : hears Signal.ack (crossed 2 1) .left ≡ crossed 1 1
-  pub nak-starts : hears Signal.nak (crossed 1 1) .left ≡ started 1
-  pub ack-starts : hears Signal.ack (crossed 1 1) .left ≡ started 1
-  pub timeout-starts : hears Signal.timeout (crossed 2 1) .left ≡ started 1
-  pub cut-starts : hears Signal.cut (crossed 2 1) .left ≡ started 1
-  -- its first frame: TPTT 1, offset 5, CDP zero
-  pub carries : framesOf (started 1) (asks ∷ []) ≡ dataFrame 1 5 0 (15 ∷ 16 ∷ 17 ∷ 18 ∷ []) ∷ []
-  -- "if every frame of that burst was handed out at least once, else 27"
-  pub too-early : arrivedOf opened (xferRdy 4 1 5) .answer ≡ WriteAnswer.Failed XferRdyNotExpected 1
-  pub once-is-enough : arrivedOf resentOne (xferRdy 4 1 5) .answer ≡ WriteAnswer.XferRdy 3
-  -- "with RETRANSMIT one it also takes the previous base, at any time", started or not; else that base is 26
-  pub again : arrivedOf opened (xferRdy 6 1 0) ≡ record { writer = initiator.pendingOf opened 0 5 1 3; answer = WriteAnswer.XferRdy 1 }
-  pub again-later : arrivedOf resentBoth (xferRdy 6 1 0) .answer ≡ WriteAnswer.XferRdy 4
-  pub again-pending : arrivedOf (crossed 2 1) (xferRdy 6 2 5) ≡ record { writer = crossed 2 2; answer = WriteAnswer.XferRdy 0 }
-  pub not-again : arrivedOf opened (xferRdy 4 1 0) .answer ≡ WriteAnswer.Failed XferRdyRequestedOffsetError 1
-
--- at the target: an XFER_RDY asked for, an answer to it, an arrival
-abbrev pub issues : Target → Left Target
-issues = writePorts .receiveCall (TargetCall.asking ready)
-
-abbrev pub told : Signal → Target → Left Target
-told g = writePorts .receiveCall (TargetCall.signals g)
-
-abbrev pub stores : List ℕ → Target → Left Target
-stores f y = writePorts .arrive y f (replicate 10 0xff)
-
--- "a new TPTT", "the lowest number from 0 that is not in use"; resent with RETRANSMIT one, "the rest the same"
-pub record Tags : Type 0 where
-  -- no DATA is stored: 0, 1, 2
-  pub resent :
-      framesOf (target.startOf device) (issues ∷ told Signal.timeout ∷ issues ∷ told Signal.nak ∷ issues ∷ []) ≡
-      xferRdy 4 0 0 ∷ xferRdy 6 1 0 ∷ xferRdy 6 2 0 ∷ []
-  -- "earlier tags leave use when DATA is stored under a later one": burst 1 is filled under 1, so burst 2 has 0, then 2
-  pub freed :
-      framesOf (target.startOf device)
-      (issues ∷ told Signal.cut ∷ issues ∷ told Signal.ack ∷
-      stores (dataFrame 1 0 0 (10 ∷ 11 ∷ 12 ∷ 13 ∷ [])) ∷ stores (dataFrame 1 4 3 (14 ∷ 0 ∷ 0 ∷ 0 ∷ [])) ∷
-      issues ∷ told Signal.timeout ∷ issues ∷ []) ≡
-      xferRdy 4 0 0 ∷ xferRdy 6 1 0 ∷ xferRdy 4 0 5 ∷ xferRdy 6 2 5 ∷ []
+pub record Resent : Type 1 where
+  -- the first XFER_RDY is handed out and times out
+  pub times-out : timeoutOf (nextOf filledFirst ready .left) .left ≡ unheard
+  -- RETRY DATA FRAMES and RETRANSMIT one; TPTT 2, since 0 and 1 are in use; "the rest the same"
+  pub asks-again : xferRdySent unheard ready 36 ≡ xferRdy 6 2 5
+  -- to the initiator it is the first one for burst 2, which starts with its TPTT
+  pub takes : writeArrivalOf sentFirst (xferRdy 6 2 5) ≡ (writer 2 5 10 5 5 0 0 0 saying Said.burst Taking.next)
+  pub delivered : ResentDelivered
+  pub tags : tagsOf (run resentStart resentEvents .handed) ≡ replicate 4 2
+  pub loses : send.lossOf (run resentStart resentTransfer .sending) .says ≡ Said.failed 31 4

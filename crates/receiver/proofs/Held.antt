@@ -10,7 +10,7 @@ use Rattle.status.proofs.Choose.{each}
 use Rattle.transfer.specs.Limits.{limitsHold}
 use Rattle.transfer.proofs.Bounds.{Bounds, bounds}
 use Rattle.receiver.specs.Record.{tests, holdsOf}
-use Rattle.receiver.specs.Arrival.{lentOf}
+use Rattle.receiver.specs.DataFrame.{lentOf}
 use Rattle.receiver.specs.declared.types.Receiver.{Receiver}
 
 pub record Held (r : Receiver) : Type 0 where

@@ -7,11 +7,12 @@ use native.Mathlib.Omega.{arith}
 use lib.Dec.{leb, ltb, eqb}
 use borrow.Author.Tests.{leb-true, ltb-true, ltb-false, eqb-true, eqb-false}
 use Rattle.status.specs.Pick.{pick}
-use Rattle.status.specs.declared.Failure.the-variants.{DataOffsetError, TooMuchData, IncorrectDataLength}
-use Rattle.receiver.specs.Arrival.{lentOf, misplaced as misplacedOf, outOfStep, verdictOf}
+use Rattle.status.specs.declared.words.Failure.the-variants.{DataOffsetError, TooMuchData, IncorrectDataLength}
+use Rattle.receiver.specs.DataFrame.{lentOf, misplaced as misplacedOf, outOfStep, verdictOf}
 use Rattle.receiver.specs.declared.types.Receiver.{Receiver}
 use Rattle.receiver.specs.declared.types.Verdict.{Verdict}
 use Rattle.receiver.specs.declared.types.Verdict.the-variants.{Discard, Skip, Fail, Store}
+use Rattle.status.proofs.Opened.{differ}
 use Rattle.receiver.proofs.Held.{held, lent}
 
 -- number 20
@@ -75,7 +76,7 @@ module _ (r : Receiver) (offset : ℕ) (cdp : Bool) where
       go false false true false d e p q s t u v = wrong (unexpected (eqb-true _ _ s) (eqb-false _ _ t))
       go false false false c true true p q s t u v = wrong (ahead (omega (arith, eqb-false (r .transfer .limit) 0 s)) u (ltb-true _ _ v))
       go false false false c true false p q s t u v = right (record { low = ltb-false _ _ p; off = λ z. absurd (eqb-false _ _ s z); on = λ _ _. ltb-false _ _ v })
-      go false false false c false e p q s t u v = right (record { low = ltb-false _ _ p; off = λ z. absurd (eqb-false _ _ s z); on = λ _ z. let w : _≡_ {A = ℕ} 0 1 = cc in absurd (omega arith) })
+      go false false false c false e p q s t u v = right (record { low = ltb-false _ _ p; off = λ z. absurd (eqb-false _ _ s z); on = λ _ z. differ (cc) })
 
   stepping : Placed r offset cdp → Stepping r offset cdp (outOfStep r offset cdp)
   unfolding outOfStep

@@ -2,3 +2,4 @@ pub mod Held
 pub mod Judged
 pub mod Buffer
 pub mod Views
+pub mod Kept

@@ -1,2 +1,3 @@
+pub mod Fields
 pub mod Record
-pub mod Arrival
+pub mod DataFrame

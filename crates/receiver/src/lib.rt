@@ -1,15 +1,14 @@
 // The receiving port's core: one DATA frame against a burst from base to end.
-mod arrival;
+mod data_frame;
 mod record;
 mod types;
 
-pub use arrival::data_received;
-pub use arrival::lent;
-pub use record::failed;
+pub use data_frame::data_received;
+pub use data_frame::lent;
+pub use record::begin;
 pub use record::holds;
 pub use record::nexus_lost;
-pub use record::refused;
-pub use types::Arrival;
-pub use types::Received;
+pub use record::set_up_read;
 pub use types::Receiver;
-pub use types::Verdict;
+pub use types::Setup;
+pub use types::Stepped;

@@ -1,4 +1,5 @@
-// The receiving port's record, and what becomes of a DATA frame.
+// The receiving port's record, and what a call leaves.
+use status::Answer;
 use status::Failure;
 use status::Refusal;
 use transfer::Transfer;
@@ -17,23 +18,19 @@ pub struct Receiver {
     pub ended: bool,
 }
 
-pub enum Arrival {
-    Refused(Refusal),
-    Failed(Failure),
-    Discarded,
-    Stored,
-    // stored, and the burst is filled with it
-    Received,
+// What a call leaves and answers. A refusal leaves the record as it was.
+pub struct Stepped {
+    pub receiver: Receiver,
+    pub answer: Answer,
 }
 
-// What a DATA frame leaves, and what became of it. A refusal leaves the record as it was.
-pub struct Received {
-    pub receiver: Receiver,
-    pub arrival: Arrival,
+pub enum Setup {
+    Ready(Receiver),
+    Refused(Refusal),
 }
 
 // What is done with a DATA frame.
-pub enum Verdict {
+pub(crate) enum Verdict {
     // the burst is filled: discarded, and nothing changes
     Discard,
     // discarded, and waiting for CHANGING DATA POINTER starts

@@ -1,88 +1,70 @@
 -- A refusal changes nothing; a failure and the ACK end the record, and an ended record refuses every call.
 use Prim.Native.Nat.{ℕ}
 use mathlib.Core.List.{List}
-use mathlib.Core.Bool.{Bool, true, false}
+use mathlib.Core.Bool.{true}
 use mathlib.Core.Path.{_≡_, refl}
 use lib.ListN.{length}
-use Rattle.status.specs.Pick.{pick}
+use Rattle.frame.specs.Write.{hands}
 use Rattle.status.specs.Entry.{entryOf}
-use Rattle.status.specs.declared.Entry.{Entry}
-use Rattle.status.specs.declared.Entry.the-variants.{Open, Closed}
-use Rattle.status.specs.declared.Refusal.{Refusal}
-use Rattle.status.specs.declared.Refusal.the-variants.{BadRequest, TransferEnded}
-use Rattle.status.specs.declared.Failure.{Failure}
-use Rattle.status.specs.declared.Failure.the-variants.{NakReceived, AckNakTimeout, ConnectionLost, NexusLoss}
-use Rattle.response.specs.Record.{holdsOf, refusedBy, unless}
+use Rattle.status.specs.Answer.{Word, Said, Left, _saying_}
+use Rattle.status.proofs.Opened.{differ, ended-entry, ended-answerable}
+use Rattle.status.proofs.Leaves.{Leaves, leaves-pick, leaves-unless, unless-gives}
+use Rattle.response.specs.Record.{holdsOf}
 use Rattle.response.specs.Transmit.{lentOf, handsOf, nextOf}
-use Rattle.response.specs.Answer.{retryOf, answerableOf, ackOf, nakOf, timeoutOf, cutOf, lossOf}
+use Rattle.response.specs.Answer.{retryOf, answersOf, ackOf, nakOf, timeoutOf, cutOf, lossOf}
 use Rattle.response.specs.declared.types.Responder.{Responder}
-use Rattle.response.specs.declared.types.Stepped.{Stepped}
-use Rattle.response.specs.declared.types.Report.{Report}
-use Rattle.response.specs.declared.types.Report.the-variants.{Refused, Wait, Frame, Retry, Unchanged, Delivered, Failed}
 
--- what a record t that an event left is to the record x that it met, by what was reported
-abbrev pub After : Report → Responder → Responder → Type 0
-After (Refused r) x t = t ≡ x
-After (Failed f) x t = t .ended ≡ true
-After Delivered x t = t .ended ≡ true
-After Wait x t = t ≡ x
-After Unchanged x t = t ≡ x
-After (Frame n) x t = Unit {0}
-After Retry x t = Unit {0}
-
-abbrev pub Leaves : Responder → Stepped → Type 0
-Leaves x z = After (z .report) x (z .responder)
+abbrev pub Ended : Responder → Type 0
+Ended x = x .ended ≡ true
 
 module _ (x : Responder) where
-  leaves-pick : (t : Bool) (a b : Stepped) → Leaves x a → Leaves x b → Leaves x (pick t a b)
-  unfolding pick
-  leaves-pick true a b p q = p
-  leaves-pick false a b p q = q
-
-  leaves-unless : (e : Entry) (z : Stepped) → Leaves x z → Leaves x (unless e x z)
-  leaves-unless Open z p = p
-  leaves-unless (Closed r) z p = refl
-
-  leaves-retry : (c : Failure) → Leaves x (retryOf x c)
+  leaves-retry : (c : ℕ) → Leaves Ended x (retryOf x c)
   unfolding retryOf
-  leaves-retry c = leaves-pick _ _ _ tt refl
+  leaves-retry c = leaves-pick Ended x _ _ _ tt refl
 
-  pub next-leaves : (iu out : List ℕ) → Leaves x (nextOf x iu out)
-  unfolding nextOf handsOf
-  next-leaves iu out = leaves-unless (entryOf (lentOf x (length iu)) (x .ended)) _ (leaves-pick _ _ _ refl (leaves-pick _ _ _ tt refl))
+  pub next-leaves : (iu out : List ℕ) → Leaves Ended x (nextOf x iu out)
+  unfolding nextOf hands
+  next-leaves iu out = leaves-unless Ended x (entryOf (lentOf x (length iu)) (x .ended)) _ (leaves-pick Ended x _ _ _ refl (leaves-pick Ended x _ _ _ tt refl))
 
-  pub ack-leaves : Leaves x (ackOf x)
-  ack-leaves = leaves-unless (answerableOf x) _ refl
+  pub ack-leaves : Leaves Ended x (ackOf x)
+  ack-leaves = leaves-unless Ended x (answersOf x) _ tt
 
-  pub nak-leaves : Leaves x (nakOf x)
-  nak-leaves = leaves-unless (answerableOf x) _ (leaves-retry NakReceived)
+  pub nak-leaves : Leaves Ended x (nakOf x)
+  nak-leaves = leaves-unless Ended x (answersOf x) _ (leaves-retry 28)
 
-  pub timeout-leaves : Leaves x (timeoutOf x)
-  timeout-leaves = leaves-unless (answerableOf x) _ (leaves-retry AckNakTimeout)
+  pub timeout-leaves : Leaves Ended x (timeoutOf x)
+  timeout-leaves = leaves-unless Ended x (answersOf x) _ (leaves-retry 29)
 
-  pub cut-leaves : Leaves x (cutOf x)
-  cut-leaves = leaves-unless (entryOf (holdsOf x) (x .ended)) _ (leaves-pick _ _ _ (leaves-retry ConnectionLost) refl)
+  pub cut-leaves : Leaves Ended x (cutOf x)
+  cut-leaves = leaves-unless Ended x (entryOf (holdsOf x) (x .ended)) _ (leaves-pick Ended x _ _ _ (leaves-retry 30) refl)
 
-  pub loss-leaves : Leaves x (lossOf x)
-  loss-leaves = leaves-unless (entryOf (holdsOf x) (x .ended)) _ refl
+  pub loss-leaves : Leaves Ended x (lossOf x)
+  loss-leaves = leaves-unless Ended x (entryOf (holdsOf x) (x .ended)) _ refl
+
+  -- its ACK ends the record
+  pub ack-ends : ackOf x .says ≡ Said.delivered 0 → Ended (ackOf x .left)
+  ack-ends = unless-gives (λ (z : Left Responder). z .says ≡ Said.delivered 0 → Ended (z .left)) (answersOf x) x _ (λ n e. differ (cc)) (λ e. refl)
 
   -- an ended record: 1 or 2, whatever is asked of it
-  module _ (e : x .ended ≡ true) where
-    closed : (ok : Bool) → (r : Refusal) × (entryOf ok (x .ended) ≡ Closed r)
-    unfolding entryOf pick
-    closed true = (TransferEnded, rw e refl)
-    closed false = (BadRequest, refl)
-
-    pub next-ended : (iu out : List ℕ) → (r : Refusal) × (nextOf x iu out ≡ refusedBy x r)
+  module _ (e : Ended x) where
+    pub next-ended : (iu out : List ℕ) → (n : ℕ) × (nextOf x iu out ≡ (x saying Said.refused n))
     unfolding nextOf
-    next-ended iu out = let c = closed (lentOf x (length iu)) in (c .0, rw (c .1) refl)
+    next-ended iu out = ended-entry _ _ x _ e
 
-    answers-closed : (r : Refusal) × (answerableOf x ≡ Closed r)
-    unfolding answerableOf
-    answers-closed = let c = closed (holdsOf x) in (c .0, rw (c .1) refl)
+    pub ack-ended : (n : ℕ) × (ackOf x ≡ (x saying Said.refused n))
+    unfolding answersOf
+    ack-ended = ended-answerable _ _ _ x _ e
 
-    pub answers-ended : (y : Stepped) → (r : Refusal) × (unless (answerableOf x) x y ≡ refusedBy x r)
-    answers-ended y = let c = answers-closed in (c .0, rw (c .1) refl)
+    pub nak-ended : (n : ℕ) × (nakOf x ≡ (x saying Said.refused n))
+    unfolding answersOf
+    nak-ended = ended-answerable _ _ _ x _ e
 
-    pub signals-ended : (y : Stepped) → (r : Refusal) × (unless (entryOf (holdsOf x) (x .ended)) x y ≡ refusedBy x r)
-    signals-ended y = let c = closed (holdsOf x) in (c .0, rw (c .1) refl)
+    pub timeout-ended : (n : ℕ) × (timeoutOf x ≡ (x saying Said.refused n))
+    unfolding answersOf
+    timeout-ended = ended-answerable _ _ _ x _ e
+
+    pub cut-ended : (n : ℕ) × (cutOf x ≡ (x saying Said.refused n))
+    cut-ended = ended-entry _ _ x _ e
+
+    pub loss-ended : (n : ℕ) × (lossOf x ≡ (x saying Said.refused n))
+    loss-ended = ended-entry _ _ x _ e

@@ -1,3 +1,4 @@
 pub mod Held
 pub mod Due
 pub mod Ended
+pub mod Kept

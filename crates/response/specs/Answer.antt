@@ -1,52 +1,43 @@
 -- ACK, NAK, timeout, cut and nexus loss at the RESPONSE.
 use Prim.Native.Nat.{ℕ, _+_}
-use mathlib.Core.Bool.{Bool, true, false}
+use mathlib.Core.Bool.{false}
 use lib.Dec.{ltb}
-use Rattle.status.specs.Pick.{pick}
-use Rattle.status.specs.Entry.{entryOf}
-use Rattle.status.specs.declared.Entry.{Entry}
-use Rattle.status.specs.declared.Entry.the-variants.{Open, Closed}
-use Rattle.status.specs.declared.Refusal.the-variants.{AnswerWithoutFrame}
-use Rattle.status.specs.declared.Failure.{Failure}
-use Rattle.status.specs.declared.Failure.the-variants.{NakReceived, AckNakTimeout, ConnectionLost, NexusLoss}
-use Rattle.response.specs.Record.{mostOf, holdsOf, unless, endedOf}
+use Rattle.status.specs.Pick.{pick, _with_}
+use Rattle.status.specs.Entry.{entryOf, answerableOf}
+use Rattle.status.specs.Answer.{Word, Said, Left, _saying_, unless}
+use Rattle.status.specs.declared.entry.Entry.{Entry}
+use Rattle.response.specs.Fields.{unanswered≔, retries≔}
+use Rattle.response.specs.Record.{mostOf, holdsOf, endedOf}
 use Rattle.response.specs.declared.types.Responder.{Responder}
-use Rattle.response.specs.declared.types.Stepped.{Stepped}
-use Rattle.response.specs.declared.types.Report.{Report}
 
--- 1, 2, then "4: ACK, NAK or timeout, none unanswered"
-abbrev pub fourOf : Entry → Bool → Entry
-fourOf (Closed r) some = Closed r
-fourOf Open some = pick some Open (Closed AnswerWithoutFrame)
+abbrev pub failedOf : Responder → ℕ → Left Responder
+failedOf x n = endedOf x saying Said.failed n 0
 
-unfoldable pub answerableOf : Responder → Entry
-answerableOf x = fourOf (entryOf (holdsOf x) (x .ended)) (x .unanswered)
-
-abbrev pub failedOf : Responder → Failure → Stepped
-failedOf x why = record { responder = endedOf x; report = Report.Failed why }
-
-abbrev pub retriedOf : Responder → Stepped
-retriedOf x =
-    record { responder = record { transfer = x .transfer; len = x .len; unanswered = false; retries = x .retries + 1; ended = x .ended }; report = Report.Retry }
+abbrev pub retriedOf : Responder → Responder
+retriedOf x = x with unanswered≔ false with retries≔ (x .retries + 1)
 
 -- "resent likewise, up to the limit, and once even with retries off"; beyond that 28, 29 or 30
-unfoldable pub retryOf : Responder → Failure → Stepped
-retryOf x cause = pick (ltb (x .retries) (mostOf x)) (retriedOf x) (failedOf x cause)
+unfoldable pub retryOf : Responder → ℕ → Left Responder
+retryOf x cause = pick (ltb (x .retries) (mostOf x)) (retriedOf x saying Said.told Word.retry) (failedOf x cause)
+
+-- 1, 2, then 4
+unfoldable pub answersOf : Responder → Entry
+answersOf x = answerableOf (holdsOf x) (x .ended) (x .unanswered)
 
 -- "its ACK ends that record"
-abbrev pub ackOf : Responder → Stepped
-ackOf x = unless (answerableOf x) x (record { responder = endedOf x; report = Report.Delivered })
+abbrev pub ackOf : Responder → Left Responder
+ackOf x = unless (answersOf x) x (endedOf x saying Said.delivered 0)
 
-abbrev pub nakOf : Responder → Stepped
-nakOf x = unless (answerableOf x) x (retryOf x NakReceived)
+abbrev pub nakOf : Responder → Left Responder
+nakOf x = unless (answersOf x) x (retryOf x 28)
 
-abbrev pub timeoutOf : Responder → Stepped
-timeoutOf x = unless (answerableOf x) x (retryOf x AckNakTimeout)
+abbrev pub timeoutOf : Responder → Left Responder
+timeoutOf x = unless (answersOf x) x (retryOf x 29)
 
 -- "A cut with none changes nothing"
-abbrev pub cutOf : Responder → Stepped
-cutOf x = unless (entryOf (holdsOf x) (x .ended)) x (pick (x .unanswered) (retryOf x ConnectionLost) (record { responder = x; report = Report.Unchanged }))
+abbrev pub cutOf : Responder → Left Responder
+cutOf x = unless (entryOf (holdsOf x) (x .ended)) x (pick (x .unanswered) (retryOf x 30) (x saying Said.told Word.unchanged))
 
 -- "31: reported by the port layer"
-abbrev pub lossOf : Responder → Stepped
-lossOf x = unless (entryOf (holdsOf x) (x .ended)) x (failedOf x NexusLoss)
+abbrev pub lossOf : Responder → Left Responder
+lossOf x = unless (entryOf (holdsOf x) (x .ended)) x (failedOf x 31)

@@ -3,16 +3,17 @@ use Prim.Native.Nat.{ℕ, max}
 use mathlib.Core.List.{List, [], _∷_}
 use mathlib.Core.Bool.{Bool, true, false}
 use lib.Dec.{leb}
-use Rattle.status.specs.Pick.{pick, all}
-use Rattle.status.specs.declared.Entry.{Entry}
-use Rattle.status.specs.declared.Refusal.{Refusal}
-use Rattle.status.specs.declared.Refusal.the-variants.{BadRequest}
+use Rattle.status.specs.Pick.{all, _with_}
+use Rattle.status.specs.Number.{refusalNumber}
+use Rattle.status.specs.Answer.{says, Left, _saying_}
+use Rattle.status.specs.Outcome.{Outcome, granted}
 use Rattle.transfer.specs.Limits.{limitsHold}
 use Rattle.transfer.specs.declared.Transfer.{Transfer}
+use Rattle.response.specs.Fields.{unanswered≔, ended≔}
 use Rattle.response.specs.declared.types.Responder.{Responder}
 use Rattle.response.specs.declared.types.Stepped.{Stepped}
-use Rattle.response.specs.declared.types.Report.{Report}
 use Rattle.response.specs.declared.types.Setup.{Setup}
+use Rattle.response.specs.declared.types.Setup.the-variants.{Ready, Refused}
 
 -- "resent likewise, up to the limit, and once even with retries off"
 abbrev pub mostOf : Responder → ℕ
@@ -25,17 +26,9 @@ tests x = limitsHold (x .transfer) ∷ leb 24 (x .len) ∷ leb (x .len) 1_024 �
 unfoldable pub holdsOf : Responder → Bool
 holdsOf x = all (tests x)
 
--- a refusal leaves the record as it was
-abbrev pub refusedBy : Responder → Refusal → Stepped
-refusedBy x why = record { responder = x; report = Report.Refused why }
-
-abbrev pub unless : Entry → Responder → Stepped → Stepped
-unless Entry.Open x y = y
-unless (Entry.Closed why) x y = refusedBy x why
-
 -- an ended record has nothing unanswered
 abbrev pub endedOf : Responder → Responder
-endedOf x = record { transfer = x .transfer; len = x .len; unanswered = false; retries = x .retries; ended = true }
+endedOf x = x with unanswered≔ false with ended≔ true
 
 abbrev pub startOf : Transfer → ℕ → Responder
 startOf t len = record { transfer = t; len = len; unanswered = false; retries = 0; ended = false }
@@ -43,5 +36,14 @@ startOf t len = record { transfer = t; len = len; unanswered = false; retries = 
 abbrev pub setUpTests : Transfer → ℕ → List Bool
 setUpTests t len = limitsHold t ∷ leb 24 len ∷ leb len 1_024 ∷ []
 
-unfoldable pub setUpOf : Transfer → ℕ → Setup
-setUpOf t len = pick (all (setUpTests t len)) (Setup.Ready (startOf t len)) (Setup.Refused BadRequest)
+abbrev pub setUpOf : Transfer → ℕ → Outcome Responder
+setUpOf t len = granted (all (setUpTests t len)) (startOf t len)
+
+-- what the set-up answers: the record, or a number
+abbrev pub made : Setup → Outcome Responder
+made (Ready x) = Outcome.value x
+made (Refused why) = Outcome.number (refusalNumber why)
+
+-- what an event leaves and answers
+abbrev pub stepped : Stepped → Left Responder
+stepped y = y .responder saying says (y .answer)

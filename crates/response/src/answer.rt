@@ -1,42 +1,34 @@
 // ACK, NAK, timeout, cut and nexus loss at the RESPONSE.
 ghost use mathlib.Core.Path.{_≡_};
-ghost use Rattle.response.specs.Answer.{answerableOf, failedOf, retryOf, ackOf, nakOf, timeoutOf, cutOf, lossOf};
+ghost use Rattle.status.specs.Number.{failureNumber};
+ghost use Rattle.response.specs.Record.{stepped};
+ghost use Rattle.response.specs.Answer.{answersOf, failedOf, retryOf, ackOf, nakOf, timeoutOf, cutOf, lossOf};
 use crate::record;
-use crate::types::Report;
 use crate::types::Responder;
 use crate::types::Stepped;
+use status::Answer;
 use status::Entry;
 use status::Failure;
-use status::Refusal;
 
 // 1, 2, then 4.
 fn answerable(x: Responder) -> Entry
-    ensures { λ r. ⌜ r ≡ answerableOf x ⌝ }
+    ensures { λ r. ⌜ r ≡ answersOf x ⌝ }
 {
     let ok = record::holds(x);
-    match status::admit(ok, x.ended) {
-        Entry::Closed(why) => Entry::Closed(why),
-        Entry::Open => {
-            if x.unanswered {
-                Entry::Open
-            } else {
-                Entry::Closed(Refusal::AnswerWithoutFrame)
-            }
-        }
-    }
+    status::answerable(ok, x.ended, x.unanswered)
 }
 
 fn failed(x: Responder, why: Failure) -> Stepped
-    ensures { λ r. ⌜ r ≡ failedOf x why ⌝ }
+    ensures { λ r. ⌜ stepped r ≡ failedOf x (failureNumber why) ⌝ }
 {
     Stepped {
         responder: record::ended(x),
-        report: Report::Failed(why),
+        answer: Answer::Failed(why, 0),
     }
 }
 
 fn retry(mut x: Responder, cause: Failure) -> Stepped
-    ensures { λ r. ⌜ r ≡ retryOf x cause ⌝ }
+    ensures { λ r. ⌜ stepped r ≡ retryOf x (failureNumber cause) ⌝ }
 {
     let most = record::most(x);
     if x.retries < most {
@@ -44,28 +36,29 @@ fn retry(mut x: Responder, cause: Failure) -> Stepped
         x.unanswered = false;
         Stepped {
             responder: x,
-            report: Report::Retry,
+            answer: Answer::Retry,
         }
     } else {
         failed(x, cause)
     }
 }
 
-// Its ACK reports it and ends the record.
+// 1, 2, 4, else delivered: the record has ended.
 pub fn ack_received(x: Responder) -> Stepped
-    ensures { λ r. ⌜ r ≡ ackOf x ⌝ }
+    ensures { λ r. ⌜ stepped r ≡ ackOf x ⌝ }
 {
     match answerable(x) {
         Entry::Closed(why) => record::refused(x, why),
         Entry::Open => Stepped {
             responder: record::ended(x),
-            report: Report::Delivered,
+            answer: Answer::Delivered(0),
         },
     }
 }
 
+// 1, 2, 4; retry or 28.
 pub fn nak_received(x: Responder) -> Stepped
-    ensures { λ r. ⌜ r ≡ nakOf x ⌝ }
+    ensures { λ r. ⌜ stepped r ≡ nakOf x ⌝ }
 {
     match answerable(x) {
         Entry::Closed(why) => record::refused(x, why),
@@ -73,8 +66,9 @@ pub fn nak_received(x: Responder) -> Stepped
     }
 }
 
+// 1, 2, 4; retry or 29.
 pub fn ack_nak_timeout(x: Responder) -> Stepped
-    ensures { λ r. ⌜ r ≡ timeoutOf x ⌝ }
+    ensures { λ r. ⌜ stepped r ≡ timeoutOf x ⌝ }
 {
     match answerable(x) {
         Entry::Closed(why) => record::refused(x, why),
@@ -82,8 +76,9 @@ pub fn ack_nak_timeout(x: Responder) -> Stepped
     }
 }
 
+// 1, 2; unchanged, retry or 30.
 pub fn connection_lost(x: Responder) -> Stepped
-    ensures { λ r. ⌜ r ≡ cutOf x ⌝ }
+    ensures { λ r. ⌜ stepped r ≡ cutOf x ⌝ }
 {
     let ok = record::holds(x);
     match status::admit(ok, x.ended) {
@@ -94,15 +89,16 @@ pub fn connection_lost(x: Responder) -> Stepped
             } else {
                 Stepped {
                     responder: x,
-                    report: Report::Unchanged,
+                    answer: Answer::Unchanged,
                 }
             }
         }
     }
 }
 
+// 1, 2, else 31.
 pub fn nexus_lost(x: Responder) -> Stepped
-    ensures { λ r. ⌜ r ≡ lossOf x ⌝ }
+    ensures { λ r. ⌜ stepped r ≡ lossOf x ⌝ }
 {
     let ok = record::holds(x);
     match status::admit(ok, x.ended) {

@@ -12,7 +12,6 @@ pub use answer::nexus_lost;
 pub use record::holds;
 pub use record::set_up;
 pub use transmit::next_frame;
-pub use types::Report;
 pub use types::Responder;
 pub use types::Setup;
 pub use types::Stepped;

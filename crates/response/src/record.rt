@@ -1,10 +1,12 @@
 // The record: its set-up, and the tests of number 1.
 ghost use mathlib.Core.Path.{_≡_};
-ghost use Rattle.response.specs.Record.{mostOf, holdsOf, refusedBy, endedOf, setUpOf};
-use crate::types::Report;
+ghost use Rattle.status.specs.Number.{refusalNumber};
+ghost use Rattle.status.specs.Answer.{Said, _saying_};
+ghost use Rattle.response.specs.Record.{mostOf, holdsOf, endedOf, made, setUpOf, stepped};
 use crate::types::Responder;
 use crate::types::Setup;
 use crate::types::Stepped;
+use status::Answer;
 use status::Refusal;
 use transfer::Transfer;
 
@@ -27,11 +29,11 @@ pub fn holds(x: Responder) -> bool
 }
 
 pub(crate) fn refused(x: Responder, why: Refusal) -> Stepped
-    ensures { λ r. ⌜ r ≡ refusedBy x why ⌝ }
+    ensures { λ r. ⌜ stepped r ≡ (x saying Said.refused (refusalNumber why)) ⌝ }
 {
     Stepped {
         responder: x,
-        report: Report::Refused(why),
+        answer: Answer::Refused(why),
     }
 }
 
@@ -44,9 +46,9 @@ pub(crate) fn ended(mut x: Responder) -> Responder
     x
 }
 
-// An IU of 24 to 1,024 bytes, else 1.
+// 1 (also for an IU of other than 24 to 1,024 bytes), else the record.
 pub fn set_up(t: Transfer, len: u32) -> Setup
-    ensures { λ r. ⌜ r ≡ setUpOf t len ⌝ }
+    ensures { λ r. ⌜ made r ≡ setUpOf t len ⌝ }
 {
     let limits = t.limits_hold();
     if limits & (24 <= len) & (len <= 1024) {

@@ -2,14 +2,16 @@
 ghost use mathlib.Core.Path.{_≡_};
 ghost use mathlib.Core.Bool.{true};
 ghost use lib.ListN.{length};
-ghost use Rattle.response.specs.Transmit.{lentOf, headerOf, frameOf, handsOf, nextOf, after, sentOf};
+ghost use Rattle.frame.specs.Write.{handing};
+ghost use Rattle.response.specs.Record.{stepped};
+ghost use Rattle.response.specs.Transmit.{lentOf, responseHeader, frameOf, handsOf, nextOf, sentOf};
 use crate::record;
-use crate::types::Report;
 use crate::types::Responder;
 use crate::types::Stepped;
 use frame::Flags;
 use frame::Header;
 use frame::Written;
+use status::Answer;
 use status::Entry;
 
 // Number 1 does not apply, the IU's length included.
@@ -23,11 +25,11 @@ fn lent(x: Responder, n: usize) -> bool
 
 // RETRANSMIT is one where it is sent again.
 fn header(x: Responder) -> Header
-    ensures { λ r. ⌜ r ≡ headerOf x ⌝ }
+    ensures { λ r. ⌜ r ≡ responseHeader x ⌝ }
 {
     let t = x.transfer;
     Header {
-        kind: 0x07,
+        kind: frame::RESPONSE,
         dest: t.remote,
         source: t.local,
         flags: Flags {
@@ -51,20 +53,21 @@ fn sent(mut x: Responder) -> Responder
 // The RESPONSE is due: it goes out, or the output buffer is too short.
 fn transmit(x: Responder, iu: &[u8], out: &mut [u8]) -> Stepped
     requires { ⌜ lentOf x (length (now iu)) ≡ true ⌝ }
-    ensures { λ r. ⌜ (r ≡ handsOf x (now (iu .entry)) (now (out .entry))) × (now (out .exit) ≡ after (handsOf x (now (iu .entry)) (now (out .entry)) .report) (frameOf x (now (iu .entry))) (now (out .entry))) ⌝ }
+    ensures { λ r. ⌜ (stepped r ≡ handsOf x (now (iu .entry)) (now (out .entry))) × (now (out .exit) ≡ handing (handsOf x (now (iu .entry)) (now (out .entry)) .says) (frameOf x (now (iu .entry))) (now (out .entry))) ⌝ }
 {
     let written = frame::write(header(x), iu, out);
     match written {
         Written::Frame(length) => Stepped {
             responder: sent(x),
-            report: Report::Frame(length),
+            answer: Answer::Frame(length),
         },
-        Written::Refused(r) => record::refused(x, r),
+        Written::Refused(why) => record::refused(x, why),
     }
 }
 
+// 1 (also for an IU of another length than at set-up), 2; wait; 3, else a RESPONSE of that length.
 pub fn next_frame(x: Responder, iu: &[u8], out: &mut [u8]) -> Stepped
-    ensures { λ r. ⌜ (r ≡ nextOf x (now (iu .entry)) (now (out .entry))) × (now (out .exit) ≡ after (nextOf x (now (iu .entry)) (now (out .entry)) .report) (frameOf x (now (iu .entry))) (now (out .entry))) ⌝ }
+    ensures { λ r. ⌜ (stepped r ≡ nextOf x (now (iu .entry)) (now (out .entry))) × (now (out .exit) ≡ handing (nextOf x (now (iu .entry)) (now (out .entry)) .says) (frameOf x (now (iu .entry))) (now (out .entry))) ⌝ }
 {
     let ok = lent(x, iu.len());
     match status::admit(ok, x.ended) {
@@ -73,7 +76,7 @@ pub fn next_frame(x: Responder, iu: &[u8], out: &mut [u8]) -> Stepped
             if x.unanswered {
                 Stepped {
                     responder: x,
-                    report: Report::Wait,
+                    answer: Answer::Wait,
                 }
             } else {
                 transmit(x, iu, out)

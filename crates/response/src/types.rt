@@ -1,5 +1,5 @@
-// The RESPONSE's record, and what its events report.
-use status::Failure;
+// The RESPONSE's record, and what its events leave.
+use status::Answer;
 use status::Refusal;
 use transfer::Transfer;
 
@@ -14,25 +14,10 @@ pub struct Responder {
     pub ended: bool,
 }
 
-pub enum Report {
-    Refused(Refusal),
-    // it is handed out and not answered
-    Wait,
-    // a RESPONSE of that many bytes stands in the output buffer
-    Frame(usize),
-    // it is to be sent again
-    Retry,
-    // a cut with nothing unanswered
-    Unchanged,
-    // it had its ACK: the record has ended
-    Delivered,
-    Failed(Failure),
-}
-
-// What an event leaves and reports. A refusal leaves the record as it was.
+// What an event leaves and answers. A refusal leaves the record as it was.
 pub struct Stepped {
     pub responder: Responder,
-    pub report: Report,
+    pub answer: Answer,
 }
 
 pub enum Setup {

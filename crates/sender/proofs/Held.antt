@@ -13,13 +13,13 @@ use Rattle.sender.specs.declared.types.Sender.{Sender}
 
 -- marks and counts in order
 pub record Marks (s : Sender) : Type 0 where
-  pub balance-least : s .base ≤ s .balance
+  pub balance-least : s .burst .base ≤ s .balance
   pub balance-most : s .balance ≤ s .next
-  pub next-most : s .next ≤ s .end
-  pub end-most : s .end ≤ s .transfer .count
+  pub next-most : s .next ≤ s .burst .end
+  pub end-most : s .burst .end ≤ s .transfer .count
   pub unanswered-most : s .unanswered ≤ s .transfer .window
-  pub limit-most : s .limit ≤ s .transfer .limit
-  pub retries-most : s .retries ≤ s .limit
+  pub limit-most : s .burst .limit ≤ s .transfer .limit
+  pub retries-most : s .retries ≤ s .burst .limit
   pub frames-most : s .frames < 2 ^ 60
 
 pub record Held (s : Sender) : Type 0 where

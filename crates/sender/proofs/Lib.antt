@@ -1,9 +1,8 @@
 pub mod Held
-pub mod Open
-pub mod Counting
 pub mod Due
+pub mod Counting
 pub mod Next
 pub mod Views
-pub mod Ended
 pub mod Kept
+pub mod Ended
 pub mod Shape

@@ -1,4 +1,4 @@
--- What no event changes, transfer and burst end, and how far the next offset goes.
+-- What no event changes, transfer and burst, and how far the next offset goes.
 use Prim.Native.Nat.{ℕ, _+_, _-_, min, _≤_}
 use mathlib.Core.List.{List}
 use mathlib.Core.Bool.{Bool, true, false}
@@ -6,78 +6,73 @@ use mathlib.Core.Path.{_≡_, refl}
 use native.Mathlib.Nat.{le-refl}
 use native.Mathlib.Omega.{arith}
 use lib.ListN.{length}
+use Rattle.frame.specs.Write.{hands}
 use Rattle.status.specs.Pick.{pick}
 use Rattle.status.specs.Entry.{entryOf}
-use Rattle.status.specs.declared.Entry.{Entry}
-use Rattle.status.specs.declared.Entry.the-variants.{Open, Closed}
-use Rattle.status.specs.declared.Failure.{Failure}
-use Rattle.status.specs.declared.Failure.the-variants.{NakReceived, AckNakTimeout, ConnectionLost}
-use Rattle.sender.specs.Record.{holdsOf, unless}
-use Rattle.sender.specs.Transmit.{lentOf, sentOf, dueOf, nextOf}
-use Rattle.sender.specs.Answer.{loweredOf, restartOf, retryOf, advanceOf, settleOf, causeOf, answerableOf, ackOf, nakOf, timeoutOf, cutOf}
+use Rattle.status.specs.Answer.{Left, unless}
+use Rattle.status.specs.declared.entry.Entry.{Entry}
+use Rattle.status.proofs.Leaves.{picked, unless-gives}
+use Rattle.transfer.specs.declared.Transfer.{Transfer}
+use Rattle.sender.specs.Record.{holdsOf}
+use Rattle.sender.specs.Transmit.{lentOf, sentOf, handsOf, nextOf}
+use Rattle.sender.specs.Answer.{loweredOf, restartOf, retryOf, advanceOf, settleOf, causeOf, answersOf, ackOf, nakOf, timeoutOf, cutOf, lossOf}
+use Rattle.sender.specs.declared.types.Burst.{Burst}
 use Rattle.sender.specs.declared.types.Sender.{Sender}
-use Rattle.sender.specs.declared.types.Stepped.{Stepped}
 use Rattle.sender.proofs.Held.{Held}
 
 -- the next offset is at most n then
-pub record Shape (s : Sender) (n : ℕ) (x : Stepped) : Type 0 where
-  pub transfer : x .sender .transfer ≡ s .transfer
-  pub end : x .sender .end ≡ s .end
-  pub next : x .sender .next ≤ n
+pub record Shape (s : Sender) (n : ℕ) (x : Left Sender) : Type 0 where
+  pub transfer : x .left .transfer ≡ s .transfer
+  pub burst : x .left .burst ≡ s .burst
+  pub next : x .left .next ≤ n
 
 module _ (s : Sender) (h : Held s) where
   module _ (n : ℕ) (from : s .next ≤ n) where
-    shape-pick : (t : Bool) (a b : Stepped) → Shape s n a → Shape s n b → Shape s n (pick t a b)
-    unfolding pick
-    shape-pick true a b p q = p
-    shape-pick false a b p q = q
+    same : {x : Left Sender} → x .left .transfer ≡ s .transfer → x .left .burst ≡ s .burst → x .left .next ≡ s .next → Shape s n x
+    same e f g = record { transfer = e; burst = f; next = omega arith }
 
-    shape-unless : (e : Entry) (x : Stepped) → Shape s n x → Shape s n (unless e s x)
-    shape-unless Open x p = p
-    shape-unless (Closed r) x p = record { transfer = refl; end = refl; next = from }
+    shape-pick : (t : Bool) (a b : Left Sender) → Shape s n a → Shape s n b → Shape s n (pick t a b)
+    shape-pick = picked (Shape s n)
+
+    shape-unless : (e : Entry) (x : Left Sender) → Shape s n x → Shape s n (unless e s x)
+    shape-unless e x = unless-gives (Shape s n) e s x (λ m. same refl refl refl)
 
     -- t is s but for its counts
-    module _ (t : Sender) (e : t .transfer ≡ s .transfer) (f : t .end ≡ s .end) (g : t .next ≡ s .next) (b : t .base ≡ s .base) (c : t .balance ≡ s .balance) where
+    module _ (t : Sender) (e : t .transfer ≡ s .transfer) (f : t .burst ≡ s .burst) (g : t .next ≡ s .next) (c : t .balance ≡ s .balance) (b : t .burst .base ≡ s .burst .base) where
       restart-most : restartOf t ≤ n
-      unfolding pick
-      restart-most = go (t .transfer .write)
-        where
-          go : (w : Bool) → pick w (t .base) (t .balance) ≤ n
-          go true = let m = h .marks in omega arith
-          go false = let m = h .marks in omega arith
+      restart-most = let m = h .marks in picked (λ (x : ℕ). x ≤ n) (t .transfer .write) (t .burst .base) (t .balance) (omega arith) (omega arith)
 
-      shape-retry : (why : Failure) → Shape s n (retryOf t why)
+      shape-retry : (why : ℕ) → Shape s n (retryOf t why)
       unfolding retryOf
-      shape-retry why = shape-pick _ _ _ (record { transfer = e; end = f; next = restart-most }) (record { transfer = e; end = f; next = omega arith })
+      shape-retry why = shape-pick _ _ _ (record { transfer = e; burst = f; next = restart-most }) (same e f g)
 
       shape-settle : Shape s n (settleOf t)
       unfolding settleOf advanceOf
-      shape-settle =
-          let same : t .next ≤ n = omega arith in
-          shape-pick _ _ _
-          (shape-pick _ _ _ (shape-retry NakReceived) (shape-pick _ _ _ (record { transfer = e; end = f; next = same }) (record { transfer = e; end = f; next = same })))
-          (record { transfer = e; end = f; next = same })
+      shape-settle = shape-pick _ _ _ (shape-pick _ _ _ (shape-retry 28) (shape-pick _ _ _ (same e f g) (same e f g))) (same e f g)
 
-  pub next-shape : (d out : List ℕ) → Shape s (s .end) (nextOf s d out)
-  unfolding nextOf dueOf sentOf
+  pub next-shape : (d out : List ℕ) → Shape s (s .burst .end) (nextOf s d out)
+  unfolding nextOf hands sentOf
   next-shape d out =
       let m = h .marks in
       let from = m .next-most in
-      shape-unless (s .end) from (entryOf (lentOf s (length d)) (s .ended)) _
-      (shape-pick (s .end) from _ _ _ (record { transfer = refl; end = refl; next = from })
-      (shape-pick (s .end) from _ _ _ (record { transfer = refl; end = refl; next = omega arith }) (record { transfer = refl; end = refl; next = from })))
+      shape-unless (s .burst .end) from (entryOf (lentOf s (length d)) (s .ended)) _
+      (shape-pick (s .burst .end) from _ _ _ (same (s .burst .end) from refl refl refl)
+      (shape-pick (s .burst .end) from _ _ _ (record { transfer = refl; burst = refl; next = omega arith }) (same (s .burst .end) from refl refl refl)))
 
   pub ack-shape : Shape s (s .next) (ackOf s)
-  ack-shape = let q = le-refl (s .next) in shape-unless (s .next) q (answerableOf s) _ (shape-settle (s .next) q (loweredOf s (s .nak)) refl refl refl refl refl)
+  ack-shape = let q = le-refl (s .next) in shape-unless (s .next) q (answersOf s) _ (shape-settle (s .next) q (loweredOf s (s .nak)) refl refl refl refl refl)
 
   pub nak-shape : Shape s (s .next) (nakOf s)
-  nak-shape = let q = le-refl (s .next) in shape-unless (s .next) q (answerableOf s) _ (shape-settle (s .next) q (loweredOf s true) refl refl refl refl refl)
+  nak-shape = let q = le-refl (s .next) in shape-unless (s .next) q (answersOf s) _ (shape-settle (s .next) q (loweredOf s true) refl refl refl refl refl)
 
   pub timeout-shape : Shape s (s .next) (timeoutOf s)
-  timeout-shape = let q = le-refl (s .next) in shape-unless (s .next) q (answerableOf s) _ (shape-retry (s .next) q s refl refl refl refl refl (causeOf s AckNakTimeout))
+  timeout-shape = let q = le-refl (s .next) in shape-unless (s .next) q (answersOf s) _ (shape-retry (s .next) q s refl refl refl refl refl (causeOf s 29))
 
   pub cut-shape : Shape s (s .next) (cutOf s)
   cut-shape =
       let q = le-refl (s .next) in
       shape-unless (s .next) q (entryOf (holdsOf s) (s .ended)) _
-      (shape-pick (s .next) q _ _ _ (record { transfer = refl; end = refl; next = q }) (shape-retry (s .next) q s refl refl refl refl refl (causeOf s ConnectionLost)))
+      (shape-pick (s .next) q _ _ _ (same (s .next) q refl refl refl) (shape-retry (s .next) q s refl refl refl refl refl (causeOf s 30)))
+
+  pub loss-shape : Shape s (s .next) (lossOf s)
+  loss-shape = let q = le-refl (s .next) in shape-unless (s .next) q (entryOf (holdsOf s) (s .ended)) _ (same (s .next) q refl refl refl)

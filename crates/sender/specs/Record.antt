@@ -1,19 +1,17 @@
--- The sending port's record: the tests of number 1, refusal, and the set-up for a read.
-use Prim.Native.Nat.{ℕ, _^_}
+-- The sending port's record: the tests of number 1, and the set-up for a read.
+use Prim.Native.Nat.{_^_}
 use mathlib.Core.List.{List, [], _∷_}
-use mathlib.Core.Bool.{Bool, true, false, not}
+use mathlib.Core.Bool.{Bool, false, not}
 use lib.Dec.{leb, ltb}
-use Rattle.status.specs.Entry.{entryOf}
-use Rattle.status.specs.Pick.{pick, all}
-use Rattle.status.specs.declared.Refusal.{Refusal}
-use Rattle.status.specs.declared.Refusal.the-variants.{BadRequest}
+use Rattle.status.specs.Pick.{all}
+use Rattle.status.specs.Number.{refusalNumber}
+use Rattle.status.specs.Answer.{says, Left, _saying_}
+use Rattle.status.specs.Outcome.{Outcome, granted}
 use Rattle.transfer.specs.Limits.{limitsHold}
 use Rattle.transfer.specs.declared.Transfer.{Transfer}
+use Rattle.sender.specs.declared.types.Burst.{Burst}
 use Rattle.sender.specs.declared.types.Sender.{Sender}
 use Rattle.sender.specs.declared.types.Stepped.{Stepped}
-use Rattle.sender.specs.declared.types.Report.{Report}
-use Rattle.status.specs.declared.Entry.{Entry}
-use Rattle.status.specs.declared.Entry.the-variants.{Open, Closed}
 use Rattle.sender.specs.declared.types.Setup.{Setup}
 use Rattle.sender.specs.declared.types.Setup.the-variants.{Ready, Refused}
 
@@ -22,33 +20,22 @@ use Rattle.sender.specs.declared.types.Setup.the-variants.{Ready, Refuse
 unfoldable pub tests : Sender → List Bool
 tests s =
     limitsHold (s .transfer) ∷
-    leb (s .base) (s .balance) ∷ leb (s .balance) (s .next) ∷ leb (s .next) (s .end) ∷ leb (s .end) (s .transfer .count) ∷
+    leb (s .burst .base) (s .balance) ∷ leb (s .balance) (s .next) ∷ leb (s .next) (s .burst .end) ∷ leb (s .burst .end) (s .transfer .count) ∷
     leb (s .unanswered) (s .transfer .window) ∷
-    leb (s .limit) (s .transfer .limit) ∷ leb (s .retries) (s .limit) ∷
+    leb (s .burst .limit) (s .transfer .limit) ∷ leb (s .retries) (s .burst .limit) ∷
     ltb (s .frames) (2 ^ 60) ∷ []
 
 unfoldable pub holdsOf : Sender → Bool
 holdsOf s = all (tests s)
 
--- a refusal leaves the record as it was
-abbrev pub refusedBy : Sender → Refusal → Stepped
-refusedBy s r = record { sender = s; report = Report.Refused r }
-
-abbrev pub unless : Entry → Sender → Stepped → Stepped
-unless Open s x = x
-unless (Closed r) s x = refusedBy s r
-
--- a read is one burst from 0; none of its frames is handed out yet
-abbrev pub startOf : Transfer → Sender
-startOf t =
+-- a burst of which nothing is handed out yet
+abbrev pub beginning : Transfer → Burst → Sender
+beginning t b =
     record {
       transfer = t;
-      limit = t .limit;
-      tptt = 0;
-      base = 0;
-      end = t .count;
-      next = 0;
-      balance = 0;
+      burst = b;
+      next = b .base;
+      balance = b .base;
       unanswered = 0;
       nak = false;
       cdp = false;
@@ -57,8 +44,21 @@ startOf t =
       ended = false;
     }
 
-abbrev pub readTests : Transfer → List Bool
-readTests t = limitsHold t ∷ not (t .write) ∷ []
+-- "a read is one burst from 0"
+abbrev pub whole : Transfer → Burst
+whole t = record { base = 0; end = t .count; tptt = 0; limit = t .limit }
 
-unfoldable pub readOf : Transfer → Setup
-readOf t = pick (all (readTests t)) (Ready (startOf t)) (Refused BadRequest)
+abbrev pub setUpTests : Transfer → List Bool
+setUpTests t = limitsHold t ∷ not (t .write) ∷ []
+
+abbrev pub setUpReadOf : Transfer → Outcome Sender
+setUpReadOf t = granted (all (setUpTests t)) (beginning t (whole t))
+
+-- what the set-up answers: the record, or a number
+abbrev pub made : Setup → Outcome Sender
+made (Ready s) = Outcome.value s
+made (Refused why) = Outcome.number (refusalNumber why)
+
+-- what an event leaves and answers
+abbrev pub stepped : Stepped → Left Sender
+stepped x = x .sender saying says (x .answer)

@@ -2,15 +2,16 @@
 ghost use mathlib.Core.Path.{_≡_};
 ghost use Prim.Native.Nat.{_≤_};
 ghost use mathlib.Core.List.{[]};
-ghost use Rattle.sender.specs.Transmit.{Counts};
-ghost use Rattle.sender.specs.Answer.{loweredOf, failedOf, restartOf, retryOf, movedOf, advanceOf, settleOf, causeOf, answerableOf, ackOf, nakOf, timeoutOf, cutOf, lossOf};
+ghost use Rattle.status.specs.Number.{failureNumber};
+ghost use Rattle.sender.specs.Record.{stepped};
+ghost use Rattle.sender.specs.Count.{Counts};
+ghost use Rattle.sender.specs.Answer.{loweredOf, failedOf, restartOf, retryOf, movedOf, advanceOf, settleOf, causeOf, answersOf, ackOf, nakOf, timeoutOf, cutOf, lossOf};
 use crate::record;
-use crate::types::Report;
 use crate::types::Sender;
 use crate::types::Stepped;
+use status::Answer;
 use status::Entry;
 use status::Failure;
-use status::Refusal;
 
 // One answer less to come, a NAK pending or not.
 fn lowered(mut s: Sender, nak: bool) -> Sender
@@ -23,14 +24,14 @@ fn lowered(mut s: Sender, nak: bool) -> Sender
 }
 
 fn failed(mut s: Sender, cause: Failure) -> Stepped
-    ensures { λ r. ⌜ r ≡ failedOf s cause ⌝ }
+    ensures { λ r. ⌜ stepped r ≡ failedOf s (failureNumber cause) ⌝ }
 {
     s.unanswered = 0;
     s.nak = false;
     s.ended = true;
     Stepped {
         sender: s,
-        report: Report::Failed(cause, s.frames),
+        answer: Answer::Failed(cause, s.frames),
     }
 }
 
@@ -39,13 +40,15 @@ fn restart(s: Sender) -> u32
     ensures { λ r. ⌜ r ≡ restartOf s ⌝ }
 {
     let t = s.transfer;
-    if t.write { s.base } else { s.balance }
+    let b = s.burst;
+    if t.write { b.base } else { s.balance }
 }
 
 fn retry(mut s: Sender, cause: Failure) -> Stepped
-    ensures { λ r. ⌜ r ≡ retryOf s cause ⌝ }
+    ensures { λ r. ⌜ stepped r ≡ retryOf s (failureNumber cause) ⌝ }
 {
-    if s.retries < s.limit {
+    let b = s.burst;
+    if s.retries < b.limit {
         let next = restart(s);
         s.next = next;
         s.balance = next;
@@ -55,7 +58,7 @@ fn retry(mut s: Sender, cause: Failure) -> Stepped
         s.nak = false;
         Stepped {
             sender: s,
-            report: Report::Retry,
+            answer: Answer::Retry,
         }
     } else {
         failed(s, cause)
@@ -77,31 +80,32 @@ fn moved(mut s: Sender) -> Sender
 
 // Nothing is unanswered and no NAK pending.
 fn advance(s: Sender) -> Stepped
-    ensures { λ r. ⌜ r ≡ advanceOf s ⌝ }
+    ensures { λ r. ⌜ stepped r ≡ advanceOf s ⌝ }
 {
     let mut m = moved(s);
-    if s.next == s.end {
+    let b = s.burst;
+    if s.next == b.end {
         let t = s.transfer;
         m.ended = !t.write;
         return Stepped {
             sender: m,
-            report: Report::Delivered(s.frames),
+            answer: Answer::Delivered(s.frames),
         };
     }
     Stepped {
         sender: m,
-        report: Report::Taken,
+        answer: Answer::Taken,
     }
 }
 
 // What an answer leaves, once the count is lowered.
 fn settle(s: Sender) -> Stepped
-    ensures { λ r. ⌜ r ≡ settleOf s ⌝ }
+    ensures { λ r. ⌜ stepped r ≡ settleOf s ⌝ }
 {
     if s.unanswered != 0 {
         return Stepped {
             sender: s,
-            report: Report::Taken,
+            answer: Answer::Taken,
         };
     }
     if s.nak {
@@ -112,51 +116,45 @@ fn settle(s: Sender) -> Stepped
 
 // "by the first bad event of the attempt"
 fn cause(s: Sender, event: Failure) -> Failure
-    ensures { λ r. ⌜ r ≡ causeOf s event ⌝ }
+    ensures { λ r. ⌜ failureNumber r ≡ causeOf s (failureNumber event) ⌝ }
 {
     if s.nak { Failure::NakReceived } else { event }
 }
 
 // 1, 2, then 4.
 fn answerable(s: Sender) -> Entry
-    ensures { λ r. ⌜ r ≡ answerableOf s ⌝ }
+    ensures { λ r. ⌜ r ≡ answersOf s ⌝ }
 {
     let ok = record::holds(s);
-    match status::admit(ok, s.ended) {
-        Entry::Closed(r) => Entry::Closed(r),
-        Entry::Open => {
-            if s.unanswered == 0 {
-                Entry::Closed(Refusal::AnswerWithoutFrame)
-            } else {
-                Entry::Open
-            }
-        }
-    }
+    status::answerable(ok, s.ended, s.unanswered != 0)
 }
 
+// 1, 2, 4; taken, delivered, retry, or 28 (a NAK is pending).
 pub fn ack_received(s: Sender) -> Stepped
-    ensures { λ r. ⌜ (r ≡ ackOf s) × Counts s [] r ⌝ }
+    ensures { λ r. ⌜ (stepped r ≡ ackOf s) × Counts s [] (stepped r) ⌝ }
 {
     match answerable(s) {
-        Entry::Closed(r) => record::refused(s, r),
+        Entry::Closed(why) => record::refused(s, why),
         Entry::Open => settle(lowered(s, s.nak)),
     }
 }
 
+// 1, 2, 4; taken, retry, or 28.
 pub fn nak_received(s: Sender) -> Stepped
-    ensures { λ r. ⌜ (r ≡ nakOf s) × Counts s [] r ⌝ }
+    ensures { λ r. ⌜ (stepped r ≡ nakOf s) × Counts s [] (stepped r) ⌝ }
 {
     match answerable(s) {
-        Entry::Closed(r) => record::refused(s, r),
+        Entry::Closed(why) => record::refused(s, why),
         Entry::Open => settle(lowered(s, true)),
     }
 }
 
+// 1, 2, 4; retry, 28 (a NAK is pending) or 29.
 pub fn ack_nak_timeout(s: Sender) -> Stepped
-    ensures { λ r. ⌜ (r ≡ timeoutOf s) × Counts s [] r ⌝ }
+    ensures { λ r. ⌜ (stepped r ≡ timeoutOf s) × Counts s [] (stepped r) ⌝ }
 {
     match answerable(s) {
-        Entry::Closed(r) => record::refused(s, r),
+        Entry::Closed(why) => record::refused(s, why),
         Entry::Open => {
             let failure = cause(s, Failure::AckNakTimeout);
             retry(s, failure)
@@ -164,17 +162,18 @@ pub fn ack_nak_timeout(s: Sender) -> Stepped
     }
 }
 
+// 1, 2; unchanged, retry, 28 (a NAK is pending) or 30.
 pub fn connection_lost(s: Sender) -> Stepped
-    ensures { λ r. ⌜ (r ≡ cutOf s) × Counts s [] r ⌝ }
+    ensures { λ r. ⌜ (stepped r ≡ cutOf s) × Counts s [] (stepped r) ⌝ }
 {
     let ok = record::holds(s);
     match status::admit(ok, s.ended) {
-        Entry::Closed(r) => record::refused(s, r),
+        Entry::Closed(why) => record::refused(s, why),
         Entry::Open => {
             if s.unanswered == 0 {
                 Stepped {
                     sender: s,
-                    report: Report::Unchanged,
+                    answer: Answer::Unchanged,
                 }
             } else {
                 let failure = cause(s, Failure::ConnectionLost);
@@ -184,12 +183,13 @@ pub fn connection_lost(s: Sender) -> Stepped
     }
 }
 
+// 1, 2, else 31.
 pub fn nexus_lost(s: Sender) -> Stepped
-    ensures { λ r. ⌜ (r ≡ lossOf s) × Counts s [] r ⌝ }
+    ensures { λ r. ⌜ (stepped r ≡ lossOf s) × Counts s [] (stepped r) ⌝ }
 {
     let ok = record::holds(s);
     match status::admit(ok, s.ended) {
-        Entry::Closed(r) => record::refused(s, r),
+        Entry::Closed(why) => record::refused(s, why),
         Entry::Open => failed(s, Failure::NexusLoss),
     }
 }

@@ -1,10 +1,13 @@
-// The record: its set-up for a read, and the tests of number 1.
+// The record: its set-up, and the tests of number 1.
 ghost use mathlib.Core.Path.{_≡_};
-ghost use Rattle.sender.specs.Record.{holdsOf, refusedBy, readOf};
-use crate::types::Report;
+ghost use Rattle.status.specs.Number.{refusalNumber};
+ghost use Rattle.status.specs.Answer.{Said, _saying_};
+ghost use Rattle.sender.specs.Record.{holdsOf, beginning, made, setUpReadOf, stepped};
+use crate::types::Burst;
 use crate::types::Sender;
 use crate::types::Setup;
 use crate::types::Stepped;
+use status::Answer;
 use status::Refusal;
 use transfer::Transfer;
 
@@ -13,49 +16,60 @@ pub fn holds(s: Sender) -> bool
     ensures { λ r. ⌜ r ≡ holdsOf s ⌝ }
 {
     let t = s.transfer;
+    let b = s.burst;
     let limits = t.limits_hold();
     limits
-        & (s.base <= s.balance)
+        & (b.base <= s.balance)
         & (s.balance <= s.next)
-        & (s.next <= s.end)
-        & (s.end <= t.count)
+        & (s.next <= b.end)
+        & (b.end <= t.count)
         & (s.unanswered <= t.window)
-        & (s.limit <= t.limit)
-        & (s.retries <= s.limit)
+        & (b.limit <= t.limit)
+        & (s.retries <= b.limit)
         & (s.frames < 0x1000_0000_0000_0000)
 }
 
 // A refusal leaves the record as it was.
-pub(crate) fn refused(s: Sender, r: Refusal) -> Stepped
-    ensures { λ x. ⌜ x ≡ refusedBy s r ⌝ }
+pub(crate) fn refused(s: Sender, why: Refusal) -> Stepped
+    ensures { λ r. ⌜ stepped r ≡ (s saying Said.refused (refusalNumber why)) ⌝ }
 {
     Stepped {
         sender: s,
-        report: Report::Refused(r),
+        answer: Answer::Refused(why),
     }
 }
 
-// The target's sending end of a read.
-pub fn read(t: Transfer) -> Setup
-    ensures { λ r. ⌜ r ≡ readOf t ⌝ }
+// A burst of which nothing is handed out yet; whether it is in order is tested at the first call.
+pub fn begin(t: Transfer, b: Burst) -> Sender
+    ensures { λ r. ⌜ r ≡ beginning t b ⌝ }
+{
+    Sender {
+        transfer: t,
+        burst: b,
+        next: b.base,
+        balance: b.base,
+        unanswered: 0,
+        nak: false,
+        cdp: false,
+        retries: 0,
+        frames: 0,
+        ended: false,
+    }
+}
+
+// The target's sending end of a read: 1, else the record.
+pub fn set_up_read(t: Transfer) -> Setup
+    ensures { λ r. ⌜ made r ≡ setUpReadOf t ⌝ }
 {
     let limits = t.limits_hold();
     if limits & !t.write {
-        Setup::Ready(Sender {
-            transfer: t,
-            limit: t.limit,
-            tptt: 0,
+        let b = Burst {
             base: 0,
             end: t.count,
-            next: 0,
-            balance: 0,
-            unanswered: 0,
-            nak: false,
-            cdp: false,
-            retries: 0,
-            frames: 0,
-            ended: false,
-        })
+            tptt: 0,
+            limit: t.limit,
+        };
+        Setup::Ready(begin(t, b))
     } else {
         Setup::Refused(Refusal::BadRequest)
     }

@@ -3,15 +3,17 @@ ghost use mathlib.Core.Path.{_≡_};
 ghost use mathlib.Core.Bool.{true, false};
 ghost use lib.ListN.{length};
 ghost use Prim.Native.Nat.{_≤_};
-ghost use Rattle.sender.specs.Record.{holdsOf};
-ghost use Rattle.sender.specs.Transmit.{lentOf, waitsOf, lesser, headerOf, frameOf, sentOf, dueOf, nextOf, after, Counts};
+ghost use Rattle.frame.specs.Write.{handing};
+ghost use Rattle.sender.specs.Record.{holdsOf, stepped};
+ghost use Rattle.sender.specs.Transmit.{lentOf, waitsOf, lesser, dataHeader, frameOf, sentOf, handsOf, nextOf};
+ghost use Rattle.sender.specs.Count.{Counts};
 use crate::record;
-use crate::types::Report;
 use crate::types::Sender;
 use crate::types::Stepped;
 use frame::Flags;
 use frame::Header;
 use frame::Written;
+use status::Answer;
 use status::Entry;
 
 // Number 1 does not apply, the data buffer's length included.
@@ -27,25 +29,37 @@ fn waits(s: Sender) -> bool
     ensures { λ r. ⌜ r ≡ waitsOf s ⌝ }
 {
     let t = s.transfer;
-    s.nak | (t.window <= s.unanswered) | (s.next == s.end)
+    let b = s.burst;
+    s.nak | (t.window <= s.unanswered) | (s.next == b.end)
 }
 
 // The lesser of the data size and what remains.
 fn data_length(s: Sender) -> u32
-    requires { ⌜ s .next ≤ s .end ⌝ }
+    requires { ⌜ s .next ≤ s .burst .end ⌝ }
     ensures { λ r. ⌜ r ≡ lesser s ⌝ }
 {
     let t = s.transfer;
-    let left = s.end - s.next;
+    let b = s.burst;
+    let left = b.end - s.next;
     if t.size <= left { t.size } else { left }
 }
 
-fn header(s: Sender) -> Header
-    ensures { λ r. ⌜ r ≡ headerOf s ⌝ }
+// A write burst's transfer tag; read DATA has zero.
+fn tptt(s: Sender) -> u16
+    ensures { λ r. ⌜ r ≡ dataHeader s .tptt ⌝ }
 {
     let t = s.transfer;
+    let b = s.burst;
+    if t.write { b.tptt } else { 0 }
+}
+
+fn header(s: Sender) -> Header
+    ensures { λ r. ⌜ r ≡ dataHeader s ⌝ }
+{
+    let t = s.transfer;
+    let tptt = tptt(s);
     Header {
-        kind: 0x01,
+        kind: frame::DATA,
         dest: t.remote,
         source: t.local,
         flags: Flags {
@@ -54,7 +68,7 @@ fn header(s: Sender) -> Header
             cdp: s.cdp,
         },
         tag: t.tag,
-        tptt: s.tptt,
+        tptt: tptt,
         offset: s.next,
     }
 }
@@ -74,7 +88,7 @@ fn sent(mut s: Sender, n: u32) -> Sender
 // A frame is due: it goes out, or the output buffer is too short.
 fn transmit(s: Sender, buffer: &[u8], out: &mut [u8]) -> Stepped
     requires { ⌜ (lentOf s (length (now buffer)) ≡ true) × (waitsOf s ≡ false) ⌝ }
-    ensures { λ r. ⌜ (r ≡ dueOf s (now (buffer .entry)) (now (out .entry))) × (now (out .exit) ≡ after (dueOf s (now (buffer .entry)) (now (out .entry)) .report) (frameOf s (now (buffer .entry))) (now (out .entry))) ⌝ }
+    ensures { λ r. ⌜ (stepped r ≡ handsOf s (now (buffer .entry)) (now (out .entry))) × (now (out .exit) ≡ handing (handsOf s (now (buffer .entry)) (now (out .entry)) .says) (frameOf s (now (buffer .entry))) (now (out .entry))) ⌝ }
 {
     let n = data_length(s);
     let from = s.next as usize;
@@ -83,23 +97,24 @@ fn transmit(s: Sender, buffer: &[u8], out: &mut [u8]) -> Stepped
     match written {
         Written::Frame(length) => Stepped {
             sender: sent(s, n),
-            report: Report::Frame(length),
+            answer: Answer::Frame(length),
         },
-        Written::Refused(r) => record::refused(s, r),
+        Written::Refused(why) => record::refused(s, why),
     }
 }
 
+// 1, 2; wait; 3, else a frame of that length.
 pub fn next_frame(s: Sender, buffer: &[u8], out: &mut [u8]) -> Stepped
-    ensures { λ r. ⌜ (r ≡ nextOf s (now (buffer .entry)) (now (out .entry))) × (now (out .exit) ≡ after (nextOf s (now (buffer .entry)) (now (out .entry)) .report) (frameOf s (now (buffer .entry))) (now (out .entry))) × Counts s (frameOf s (now (buffer .entry))) r ⌝ }
+    ensures { λ r. ⌜ (stepped r ≡ nextOf s (now (buffer .entry)) (now (out .entry))) × (now (out .exit) ≡ handing (nextOf s (now (buffer .entry)) (now (out .entry)) .says) (frameOf s (now (buffer .entry))) (now (out .entry))) × Counts s (frameOf s (now (buffer .entry))) (stepped r) ⌝ }
 {
     let ok = lent(s, buffer.len());
     match status::admit(ok, s.ended) {
-        Entry::Closed(r) => record::refused(s, r),
+        Entry::Closed(why) => record::refused(s, why),
         Entry::Open => {
             if waits(s) {
                 Stepped {
                     sender: s,
-                    report: Report::Wait,
+                    answer: Answer::Wait,
                 }
             } else {
                 transmit(s, buffer, out)

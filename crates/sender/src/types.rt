@@ -1,17 +1,23 @@
-// The sending port's record, and what an event reports.
-use status::Failure;
+// A burst, the sending port's record, and what an event leaves.
+use status::Answer;
 use status::Refusal;
 use transfer::Transfer;
+
+// What one XFER_RDY asks for, or a whole read.
+#[repr(C)]
+pub struct Burst {
+    pub base: u32,
+    pub end: u32,
+    // the target port transfer tag of the XFER_RDY; read DATA has zero whatever stands here
+    pub tptt: u16,
+    // the retry limit in force
+    pub limit: u32,
+}
 
 #[repr(C)]
 pub struct Sender {
     pub transfer: Transfer,
-    // the retry limit in force
-    pub limit: u32,
-    pub tptt: u16,
-    // the burst
-    pub base: u32,
-    pub end: u32,
+    pub burst: Burst,
     // next offset, balance point
     pub next: u32,
     pub balance: u32,
@@ -27,27 +33,10 @@ pub struct Sender {
     pub ended: bool,
 }
 
-pub enum Report {
-    Refused(Refusal),
-    // no frame is due
-    Wait,
-    // a frame of that many bytes stands in the output buffer
-    Frame(usize),
-    // the event was taken; nothing to tell
-    Taken,
-    // the retry begins
-    Retry,
-    // a cut with nothing unanswered
-    Unchanged,
-    // with the number of frames handed out
-    Delivered(u64),
-    Failed(Failure, u64),
-}
-
-// What an event leaves and reports. A refusal leaves the record as it was.
+// What an event leaves and answers. A refusal leaves the record as it was.
 pub struct Stepped {
     pub sender: Sender,
-    pub report: Report,
+    pub answer: Answer,
 }
 
 pub enum Setup {

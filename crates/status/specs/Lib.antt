@@ -1,3 +1,5 @@
 pub mod Number
 pub mod Pick
 pub mod Entry
+pub mod Answer
+pub mod Outcome

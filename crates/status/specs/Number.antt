@@ -1,9 +1,9 @@
 -- The numbers of the paper's words ("Trade words"): 1 to 8 are refusals, 20 to 32 failures that end the port.
 use Prim.Native.Nat.{ℕ}
-use Rattle.status.specs.declared.Refusal.{Refusal}
-use Rattle.status.specs.declared.Refusal.the-variants.{BadRequest, TransferEnded, FrameSpaceShort, AnswerWithoutFrame, MalformedFrame, UnexpectedFrameType, WrongAddress, UnknownTag}
-use Rattle.status.specs.declared.Failure.{Failure}
-use Rattle.status.specs.declared.Failure.the-variants.{DataOffsetError, TooMuchData, IncorrectDataLength, XferRdyTooShort, XferRdyTooLong, XferRdyIncorrectWriteDataLength, XferRdyRequestedOffsetError, XferRdyNotExpected, NakReceived, AckNakTimeout, ConnectionLost, NexusLoss, ResponseTooShort}
+use Rattle.status.specs.declared.words.Refusal.{Refusal}
+use Rattle.status.specs.declared.words.Refusal.the-variants.{BadRequest, TransferEnded, FrameSpaceShort, AnswerWithoutFrame, MalformedFrame, UnexpectedFrameType, WrongAddress, UnknownTag}
+use Rattle.status.specs.declared.words.Failure.{Failure}
+use Rattle.status.specs.declared.words.Failure.the-variants.{DataOffsetError, TooMuchData, IncorrectDataLength, XferRdyTooShort, XferRdyTooLong, XferRdyIncorrectWriteDataLength, XferRdyRequestedOffsetError, XferRdyNotExpected, NakReceived, AckNakTimeout, ConnectionLost, NexusLoss, ResponseTooShort}
 
 abbrev pub refusalNumber : Refusal → ℕ
 refusalNumber BadRequest = 1

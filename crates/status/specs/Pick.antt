@@ -14,3 +14,8 @@ andAll before (t ∷ ts) = andAll (before && t) ts
 
 abbrev pub all : List Bool → Bool
 all ts = andAll true ts
+
+-- a record with some fields set anew, each by its setter: `s with nak≔ false with ended≔ true`
+infixl 2 _with_
+abbrev pub _with_ : {A : Type 0} → A → (A → A) → A
+x with set = set x

@@ -1,91 +1,11 @@
-// The words of the paper ("Trade words"): eight refusals and thirteen failures, each with its number.
-ghost use mathlib.Core.Path.{_≡_};
-ghost use Rattle.status.specs.Number.{refusalNumber, failureNumber};
-ghost use Rattle.status.specs.Entry.{entryOf};
+// The words of the paper ("Trade words"): eight refusals and thirteen failures, each with its number; and what a call answers.
+mod answer;
+mod entry;
+mod words;
 
-// A refusal changes nothing.
-pub enum Refusal {
-    BadRequest,
-    TransferEnded,
-    FrameSpaceShort,
-    AnswerWithoutFrame,
-    MalformedFrame,
-    UnexpectedFrameType,
-    WrongAddress,
-    UnknownTag,
-}
-
-// A failure ends the port.
-pub enum Failure {
-    DataOffsetError,
-    TooMuchData,
-    IncorrectDataLength,
-    XferRdyTooShort,
-    XferRdyTooLong,
-    XferRdyIncorrectWriteDataLength,
-    XferRdyRequestedOffsetError,
-    XferRdyNotExpected,
-    NakReceived,
-    AckNakTimeout,
-    ConnectionLost,
-    NexusLoss,
-    ResponseTooShort,
-}
-
-impl Refusal {
-    pub fn number(self) -> u8
-        ensures { λ r. ⌜ r ≡ refusalNumber self ⌝ }
-    {
-        match self {
-            Refusal::BadRequest => 1,
-            Refusal::TransferEnded => 2,
-            Refusal::FrameSpaceShort => 3,
-            Refusal::AnswerWithoutFrame => 4,
-            Refusal::MalformedFrame => 5,
-            Refusal::UnexpectedFrameType => 6,
-            Refusal::WrongAddress => 7,
-            Refusal::UnknownTag => 8,
-        }
-    }
-}
-
-impl Failure {
-    pub fn number(self) -> u8
-        ensures { λ r. ⌜ r ≡ failureNumber self ⌝ }
-    {
-        match self {
-            Failure::DataOffsetError => 20,
-            Failure::TooMuchData => 21,
-            Failure::IncorrectDataLength => 22,
-            Failure::XferRdyTooShort => 23,
-            Failure::XferRdyTooLong => 24,
-            Failure::XferRdyIncorrectWriteDataLength => 25,
-            Failure::XferRdyRequestedOffsetError => 26,
-            Failure::XferRdyNotExpected => 27,
-            Failure::NakReceived => 28,
-            Failure::AckNakTimeout => 29,
-            Failure::ConnectionLost => 30,
-            Failure::NexusLoss => 31,
-            Failure::ResponseTooShort => 32,
-        }
-    }
-}
-
-// Whether a call is refused before its own work.
-pub enum Entry {
-    Open,
-    Closed(Refusal),
-}
-
-// 1, then 2. `ok`: number 1 does not apply.
-pub fn admit(ok: bool, ended: bool) -> Entry
-    ensures { λ r. ⌜ r ≡ entryOf ok ended ⌝ }
-{
-    if !ok {
-        return Entry::Closed(Refusal::BadRequest);
-    }
-    if ended {
-        return Entry::Closed(Refusal::TransferEnded);
-    }
-    Entry::Open
-}
+pub use answer::Answer;
+pub use entry::Entry;
+pub use entry::admit;
+pub use entry::answerable;
+pub use words::Failure;
+pub use words::Refusal;

@@ -1,14 +1,14 @@
 -- What a record that number 1 does not refuse gives, all bounds at once, and back.
-use Prim.Native.Nat.{ℕ, _≤_}
-use mathlib.Core.Bool.{true}
-use mathlib.Core.Path.{_≡_}
+use Prim.Native.Nat.{ℕ, _≤_, _<_}
+use mathlib.Core.Bool.{Bool, true, false, _||_}
+use mathlib.Core.Path.{_≡_, refl}
 use native.Mathlib.Omega.{arith}
-use borrow.Author.Tests.{leb-true, eqb-true, le-leb, eq-eqb}
+use lib.Dec.{ltb, eqb}
+use borrow.Author.Tests.{leb-true, ltb-true, eqb-true, eqb-false, le-leb, lt-ltb, eq-eqb, ne-eqb}
 use Rattle.status.proofs.Choose.{each}
 use Rattle.receiver.specs.Record as receiver
-use Rattle.receiver.specs.Arrival as arrival
 use Rattle.receiver.proofs.Held as marks
-use Rattle.target.specs.Record.{tests, holdsOf}
+use Rattle.target.specs.Record.{NONE, READY, tests, holdsOf}
 use Rattle.target.specs.Arrival.{lentOf, lentTests}
 use Rattle.target.specs.declared.types.Target.{Target}
 
@@ -17,18 +17,33 @@ pub record Held (x : Target) : Type 0 where
   pub core : receiver.holdsOf (x .receiver) ≡ true
   pub marks : marks.Held (x .receiver)
   pub write : x .receiver .transfer .write ≡ true
-  pub retries : x .retries ≤ x .receiver .transfer .limit
-  pub since : x .since ≤ 16
+  pub state-most : x .state ≤ READY
+  -- the burst of an XFER_RDY handed out is not empty
+  pub some : (x .state ≡ NONE → ⊥) → x .receiver .base < x .receiver .end
+  pub retries-most : x .retries ≤ x .receiver .transfer .limit
+  pub since-most : x .since ≤ 16
 
 pub held : (x : Target) → holdsOf x ≡ true → Held x
 unfolding holdsOf tests
 held x e =
     let h = each (tests x) e in
-    record { core = h .0; marks = marks.held (x .receiver) (h .0); write = h .1 .0; retries = omega (arith, leb-true); since = omega (arith, leb-true) }
+    record {
+      core = h .0;
+      marks = marks.held (x .receiver) (h .0);
+      write = h .1 .0;
+      state-most = omega (arith, leb-true);
+      some = λ n. let e = rw (ne-eqb _ _ n) at (h .1 .1 .1 .0) in omega (arith, leb-true, ltb-true);
+      retries-most = omega (arith, leb-true);
+      since-most = omega (arith, leb-true);
+    }
 
-pub holds-again : (x : Target) → receiver.holdsOf (x .receiver) ≡ true → x .receiver .transfer .write ≡ true → x .retries ≤ x .receiver .transfer .limit → x .since ≤ 16 → holdsOf x ≡ true
+pub holds-again : (x : Target) → receiver.holdsOf (x .receiver) ≡ true → x .receiver .transfer .write ≡ true → x .state ≤ READY → ((x .state ≡ NONE → ⊥) → x .receiver .base < x .receiver .end) → x .retries ≤ x .receiver .transfer .limit → x .since ≤ 16 → holdsOf x ≡ true
 unfolding holdsOf tests
-holds-again x c w r s = simp (c, w, le-leb _ _ r, le-leb _ _ s)
+holds-again x c w a b r s = simp (c, w, le-leb _ _ a, go (eqb (x .state) NONE) refl, le-leb _ _ r, le-leb _ _ s)
+  where
+    go : (t : Bool) → eqb (x .state) NONE ≡ t → (eqb (x .state) NONE || ltb (x .receiver .base) (x .receiver .end)) ≡ true
+    go true e = rw e
+    go false e = rw e (lt-ltb _ _ (b (eqb-false _ _ e)))
 
 -- a record that comes with a data buffer of m bytes
 pub record Lent (x : Target) (m : ℕ) : Type 0 where
@@ -42,6 +57,3 @@ lent x m e = let h = each (lentTests x m) e in record { holds = h .0; size = ome
 pub lent-again : (x : Target) (m : ℕ) → holdsOf x ≡ true → m ≡ x .receiver .transfer .count → lentOf x m ≡ true
 unfolding lentOf
 lent-again x m h e = simp (h, eq-eqb _ _ e)
-
-pub lent-core : (x : Target) (m : ℕ) → lentOf x m ≡ true → arrival.lentOf (x .receiver) m ≡ true
-lent-core x m e = let l = lent x m e in marks.lent-again (x .receiver) m (held x (l .holds) .core) (l .size)

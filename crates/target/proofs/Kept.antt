@@ -1,96 +1,156 @@
--- The records that set-up and events leave are well-formed.
+-- Every event leaves a well-formed record well-formed; an XFER_RDY handed out asks that a tag more may be in use.
 use Prim.Native.Nat.{ℕ, _+_, _≤_, _<_}
-use mathlib.Core.Bool.{Bool, true, false}
+use mathlib.Core.Bool.{Bool, true, false, false≢true}
 use mathlib.Core.List.{List}
 use mathlib.Core.Path.{_≡_, refl, sym, ap, _∙_}
 use native.Mathlib.Omega.{arith}
-use Rattle.status.specs.Pick.{pick}
-use Rattle.status.specs.declared.Failure.{Failure}
+use lib.Dec.{leb, ltb, eqb}
+use lib.ListN.{length, getD}
+use borrow.Author.Tests.{ltb-true, eqb-true}
+use Rattle.frame.specs.Write.{hands}
+use Rattle.status.specs.Pick.{pick, _with_}
+use Rattle.status.specs.Entry.{entryOf}
+use Rattle.status.specs.Answer.{Said, Left, _saying_, stores, unless}
+use Rattle.status.specs.declared.entry.Entry.{Entry}
+use Rattle.status.specs.declared.entry.Entry.the-variants.{Open, Closed}
+use Rattle.status.proofs.Leaves.{picked, unless-gives}
+use Rattle.status.specs.Outcome.{Outcome}
+use Rattle.frame.specs.Format.{RESPONSE}
+use Rattle.frame.specs.Read.{headerIn}
+use Rattle.arrival.specs.Accept.{kindOf, isTaken, acceptOf}
+use Rattle.arrival.specs.declared.Role.the-variants.{WriteTarget}
+use Rattle.arrival.specs.declared.Arrived.{Arrived}
+use Rattle.arrival.proofs.Passed.{passed}
 use Rattle.transfer.specs.Limits.{limitsHold}
 use Rattle.transfer.specs.declared.Transfer.{Transfer}
-use Rattle.transfer.proofs.Bounds.{bounds}
-use Rattle.frame.specs.Read.{headerOf, iuLength}
-use Rattle.receiver.specs.Record as receiver
-use Rattle.receiver.specs.Arrival.{arrivalOf}
-use Rattle.receiver.specs.declared.types.Receiver.{Receiver}
-use Rattle.receiver.specs.declared.types.Received.{Received as Result}
-use Rattle.receiver.specs.declared.types.Arrival.{Arrival}
-use Rattle.receiver.specs.declared.types.Arrival.the-variants.{Refused, Failed, Discarded, Stored, Received}
+use Rattle.receiver.specs.DataFrame.{arrivalOf}
 use Rattle.receiver.proofs.Held as marks
-use Rattle.receiver.proofs.Views as views
-use Rattle.target.specs.Tag.{lowest, used}
-use Rattle.target.specs.Record.{holdsOf, failedOf, startOf}
-use Rattle.target.specs.Transmit.{nextBurst, burstOf, issuedOf}
-use Rattle.target.specs.Answer.{acknowledgedOf, retriedOf}
-use Rattle.target.specs.Arrival.{withReceiver, storedBy, lifted, lentOf, arrivedOf}
+use Rattle.receiver.proofs.Kept as kept
+use Rattle.target.specs.Record.{NONE, UNANSWERED, AGAIN, READY, holdsOf, failedOf, startOf}
+use Rattle.target.specs.Transmit.{dueOf, issuedOf, frameOf, handsOf, nextOf}
+use Rattle.target.specs.Answer.{acknowledgedOf, retryOf, answersOf, ackOf, nakOf, timeoutOf, cutOf, lossOf}
+use Rattle.target.specs.Arrival.{liftedOf, arrivedBy, lentOf, writeArrivalOf}
 use Rattle.target.specs.declared.types.Target.{Target}
-use Rattle.target.specs.declared.types.Stepped.{Stepped}
-use Rattle.target.specs.declared.types.Arrived.{Arrived}
-use Rattle.target.proofs.Held.{held, holds-again, lent, lent-again, lent-core}
-use Rattle.target.proofs.Views.{Retried}
-use Rattle.target.proofs.Ended.{Came, came}
+use Rattle.target.proofs.Held.{Held, held, holds-again, lent, lent-again}
+use Rattle.target.proofs.Issue.{Due, due, resent, started}
+use Rattle.target.proofs.Views.{answers, Came, came}
+
+abbrev Kept : Left Target → Type 0
+Kept z = holdsOf (z .left) ≡ true
+
+-- what holds of both, each with its test, holds of the one that is picked
+by-test : {A : Type 0} (P : A → Type 0) (t : Bool) (a b : A) → (t ≡ true → P a) → P b → P (pick t a b)
+unfolding pick
+by-test P true a b p q = p refl
+by-test P false a b p q = q
 
 pub start-holds : (t : Transfer) → limitsHold t ≡ true → t .write ≡ true → holdsOf (startOf t) ≡ true
-start-holds t l w =
-    let b = bounds t l in
-    holds-again (startOf t) (marks.holds-again (startOf t .receiver) l (omega arith) (omega arith) (omega arith) (omega arith)) w (omega arith) (omega arith)
+start-holds t l w = holds-again (startOf t) (kept.begins-holds t 0 0 l (omega arith) (omega arith)) w (omega arith) (λ n. absurd (n refl)) (omega arith) (omega arith)
 
-pub issued-holds : (x : Target) → holdsOf x ≡ true → x .since < 16 → holdsOf (issuedOf x) ≡ true
-unfolding issuedOf burstOf pick
-issued-holds x e s = go (x .again)
-  where
-    go : (t : Bool) → holdsOf (record { receiver = pick t x (nextBurst x) .receiver; issued = true; tptt = lowest (used (x .stored) (x .under) (x .since)); unanswered = true; again = false; ready = false; retries = pick t x (nextBurst x) .retries; stored = pick t x (nextBurst x) .stored; under = pick t x (nextBurst x) .under; since = x .since + 1 }) ≡ true
-    go true = let h = held x e in holds-again _ (h .core) (h .write) (h .retries) (omega arith)
-    go false =
-        let h = held x e in
-        let m = h .marks in
-        holds-again _ (marks.holds-again (nextBurst x .receiver) (marks.limits-again (x .receiver) (h .core)) (omega arith) (omega arith) (omega arith) (omega arith)) (h .write) (omega arith) (omega arith)
-
-pub acknowledged-holds : (y : Target) → holdsOf y ≡ true → holdsOf (acknowledgedOf y .target) ≡ true
-acknowledged-holds y e =
-    let h = held y e in
-    let m = h .marks in
-    holds-again (acknowledgedOf y .target) (marks.holds-again (acknowledgedOf y .target .receiver) (marks.limits-again (y .receiver) (h .core)) (omega arith) (omega arith) (omega arith) (m .end-count)) (h .write) (h .retries) (h .since)
-
-pub retried-holds : {y : Target} {cause : Failure} {z : Stepped} → Retried y cause z → holdsOf y ≡ true → holdsOf (z .target) ≡ true
-retried-holds {y} (Retried.again l) e = let h = held y e in holds-again (retriedOf y .target) (h .core) (h .write) (omega arith) (h .since)
-retried-holds {y} {cause} (Retried.spent l) e = let h = held y e in holds-again (failedOf y cause .target) (views.failed-holds (y .receiver) cause (h .core)) (h .write) (h .retries) (h .since)
-
--- what an arrival leaves, with the same data buffer
-same-transfer : {r : Receiver} {offset n : ℕ} {cdp : Bool} {z : Result} → views.Arrived r offset cdp n z → z .receiver .transfer ≡ r .transfer
-same-transfer (views.Arrived.full p) = refl
-same-transfer (views.Arrived.misplaced o p) = refl
-same-transfer (views.Arrived.long o p) = refl
-same-transfer (views.Arrived.empty o p) = refl
-same-transfer (views.Arrived.skipped i s) = refl
-same-transfer (views.Arrived.stored i s) = refl
-
-module _ (x : Target) (m : ℕ) (e : lentOf x m ≡ true) where
-  -- the same transfer and retries
-  like : (y : Target) → receiver.holdsOf (y .receiver) ≡ true → y .receiver .transfer ≡ x .receiver .transfer → y .retries ≡ x .retries → y .since ≤ 16 → lentOf y m ≡ true
-  like y c q r s =
-      let l = lent x m e in
-      let h = held x (l .holds) in
-      let n : x .receiver .transfer .limit ≡ y .receiver .transfer .limit = ap (λ (t : Transfer). t .limit) (sym q) in
-      lent-again y m (holds-again y c (ap (λ (t : Transfer). t .write) q ∙ h .write) (omega arith) s) (l .size ∙ ap (λ (t : Transfer). t .count) (sym q))
-
-  lifted-lent : (z : Result) → receiver.holdsOf (z .receiver) ≡ true → z .receiver .transfer ≡ x .receiver .transfer → lentOf (lifted x z .target) m ≡ true
-  lifted-lent z c q = go (z .arrival)
+module _ (x : Target) (h : Held x) where
+  pub issued-holds : dueOf x ≡ true → x .since + 1 ≤ 16 → holdsOf (issuedOf x) ≡ true
+  unfolding issuedOf
+  issued-holds d s = go (due x d)
     where
-      go : (a : Arrival) → lentOf (storedBy a (withReceiver x (z .receiver))) m ≡ true
-      go Stored = like _ c q refl (omega arith)
-      go Received = like _ c q refl (omega arith)
-      go Discarded = like _ c q refl (held x (lent x m e .holds) .since)
-      go (Refused why) = like _ c q refl (held x (lent x m e .holds) .since)
-      go (Failed why) = like _ c q refl (held x (lent x m e .holds) .since)
+      go : Due x → holdsOf (issuedOf x) ≡ true
+      go (Due.resend e) = rw (resent x e) (holds-again _ (h .core) (h .write) (omega arith) (λ n. h .some (λ z. omega arith)) (h .retries-most) s)
+      go (Due.fresh a u f l) =
+          let m = h .marks in
+          let t = m .limits in
+          rw (started x a) (holds-again _ (kept.begins-holds _ _ _ (marks.limits-again (x .receiver) (h .core)) (omega arith) (omega arith)) (h .write) (omega arith) (λ n. omega arith) (omega arith) s)
 
-pub arrived-lent : (x : Target) (f : List ℕ) (m : ℕ) → lentOf x m ≡ true → lentOf (arrivedOf x f m .target) m ≡ true
-arrived-lent x f m e = go (came x f m)
-  where
-    go : {z : Arrived} → Came x f m z → lentOf (z .target) m ≡ true
-    go (Came.refused why) = e
-    go (Came.early r) = e
-    go (Came.arrived l o r) =
-        let g = headerOf f in
-        let v = views.arrived (x .receiver) (g .offset) (g .flags .cdp) (iuLength f) m (lent-core x m e) o in
-        lifted-lent x m e (arrivalOf (x .receiver) (g .offset) (g .flags .cdp) (iuLength f) m) (views.arrived-holds (x .receiver) (g .offset) (g .flags .cdp) (iuLength f) v (held x (lent x m e .holds) .core)) (same-transfer v)
+  acknowledged-again : (x .state ≡ NONE → ⊥) → holdsOf (acknowledgedOf x) ≡ true
+  acknowledged-again n =
+      let m = h .marks in
+      holds-again _ (marks.holds-again _ (marks.limits-again (x .receiver) (h .core)) (omega arith) (omega arith) (omega arith) (m .end-count)) (h .write) (omega arith) (λ z. h .some n) (h .retries-most) (h .since-most)
+
+  failed-holds : (c : ℕ) → Kept (failedOf x c)
+  failed-holds c =
+      let s = by-test (λ (n : ℕ). (n ≤ READY) × ((n ≡ NONE → ⊥) → x .receiver .base < x .receiver .end)) (eqb (x .state) UNANSWERED) AGAIN (x .state) (λ e. (omega arith, λ n. h .some (λ z. omega (arith, eqb-true (x .state) UNANSWERED e)))) (h .state-most, h .some) in
+      holds-again _ (kept.ended-holds (x .receiver) (h .core)) (h .write) (s .0) (s .1) (h .retries-most) (h .since-most)
+
+  retry-holds : (x .state ≡ UNANSWERED) → (c : ℕ) → Kept (retryOf x c)
+  unfolding retryOf
+  retry-holds u c = by-test Kept (ltb (x .retries) (x .receiver .transfer .limit)) _ _ (λ l. holds-again _ (h .core) (h .write) (omega arith) (λ n. h .some (λ z. omega arith)) (omega (arith, ltb-true (x .retries) (x .receiver .transfer .limit) l)) (h .since-most)) (failed-holds c)
+
+  -- the receiving port's answer
+  lifted-holds : (offset : ℕ) (cdp : Bool) (n m : ℕ) → let y = liftedOf x (arrivalOf (x .receiver) offset cdp n m) .left in (holdsOf y ≡ true) × (y .receiver .transfer ≡ x .receiver .transfer)
+  lifted-holds offset cdp n m =
+      let r = x .receiver in
+      let s = kept.arrival-same r offset cdp n m in
+      let c = kept.arrival-kept r (h .core) offset cdp n m in
+      let l = ap (λ (t : Transfer). t .limit) (s .transfer) in
+      let w = ap (λ (t : Transfer). t .write) (s .transfer) ∙ h .write in
+      picked (λ (y : Target). (holdsOf y ≡ true) × (y .receiver .transfer ≡ r .transfer)) _ _ _
+      (holds-again _ c w (h .state-most) (λ z. omega (arith, h .some z, s)) (omega (arith, l, h)) (omega arith), s .transfer)
+      (holds-again _ c w (h .state-most) (λ z. omega (arith, h .some z, s)) (omega (arith, l, h)) (h .since-most), s .transfer)
+
+pub acknowledged-holds : (y : Target) → holdsOf y ≡ true → y .state ≡ UNANSWERED → holdsOf (acknowledgedOf y) ≡ true
+acknowledged-holds y e u = acknowledged-again y (held y e) (λ n. omega arith)
+
+module _ (x : Target) where
+  arrived-same : (f : List ℕ) (m : ℕ) → holdsOf x ≡ true → (holdsOf (writeArrivalOf x f m .left) ≡ true) × (writeArrivalOf x f m .left .receiver .transfer ≡ x .receiver .transfer)
+  arrived-same f m h = go (came x f m)
+    where
+      go : {z : Left Target} → Came x m z → (holdsOf (z .left) ≡ true) × (z .left .receiver .transfer ≡ x .receiver .transfer)
+      go (Came.refused n) = (h, refl)
+      go (Came.early e) = (h, refl)
+      go (Came.taken e offset cdp n) = lifted-holds x (held x h) offset cdp n m
+
+  -- with the same data buffer
+  pub arrived-lent : (f : List ℕ) (m : ℕ) → lentOf x m ≡ true → lentOf (writeArrivalOf x f m .left) m ≡ true
+  arrived-lent f m e =
+      let l = lent x m e in
+      let s = arrived-same f m (l .holds) in
+      lent-again _ m (s .0) (l .size ∙ ap (λ (t : Transfer). t .count) (sym (s .1)))
+
+  -- DATA before the XFER_RDY's ACK is not stored
+  pub before-ack : (f : List ℕ) (m : ℕ) → (x .state ≡ READY → ⊥) → stores (writeArrivalOf x f m .says) ≡ false
+  before-ack f m n = go (came x f m)
+    where
+      go : {z : Left Target} → Came x m z → stores (z .says) ≡ false
+      go (Came.refused k) = refl
+      go (Came.early e) = refl
+      go (Came.taken e offset cdp k) = absurd (n e)
+
+  -- the target takes no RESPONSE
+  pub response-stores-nothing : (f : List ℕ) (m : ℕ) → getD f 0 0 ≡ RESPONSE → stores (writeArrivalOf x f m .says) ≡ false
+  unfolding writeArrivalOf kindOf headerIn pick
+  response-stores-nothing f m e = unless-gives (λ (z : Left Target). stores (z .says) ≡ false) (entryOf (lentOf x m) (x .receiver .ended)) x _ (λ n. refl) (go (acceptOf WriteTarget (x .receiver .transfer) f) refl)
+    where
+      go : (y : Outcome Arrived) → acceptOf WriteTarget (x .receiver .transfer) f ≡ y → stores (arrivedBy y x m .says) ≡ false
+      go (Outcome.number n) q = refl
+      go (Outcome.value a) q =
+          let t : isTaken (kindOf WriteTarget RESPONSE) ≡ true = rw e at (passed (x .receiver .transfer) WriteTarget f a q .taken) in
+          absurd (false≢true t)
+
+  module _ (h : holdsOf x ≡ true) where
+    -- an answer that is not refused
+    answer-kept : (z : Left Target) → (x .state ≡ UNANSWERED → Kept z) → Kept (unless (answersOf x) x z)
+    answer-kept z f = go (answersOf x) refl
+      where
+        go : (e : Entry) → e ≡ answersOf x → Kept (unless e x z)
+        go Open p = f (answers x p .2)
+        go (Closed why) p = h
+
+    pub next-kept : (out : List ℕ) → x .since + 1 ≤ 16 → holdsOf (nextOf x out .left) ≡ true
+    unfolding nextOf hands
+    next-kept out s = unless-gives Kept (entryOf (holdsOf x) (x .receiver .ended)) x _ (λ n. h) (by-test Kept (dueOf x) _ _ (λ d. picked Kept (leb (length (frameOf x)) (length out)) (issuedOf x saying Said.frame (length (frameOf x))) (x saying Said.refused 3) (issued-holds x (held x h) d s) h) h)
+
+    pub ack-kept : holdsOf (ackOf x .left) ≡ true
+    ack-kept = answer-kept _ (acknowledged-holds x h)
+
+    pub nak-kept : holdsOf (nakOf x .left) ≡ true
+    nak-kept = answer-kept _ (λ u. retry-holds x (held x h) u 28)
+
+    pub timeout-kept : holdsOf (timeoutOf x .left) ≡ true
+    timeout-kept = answer-kept _ (λ u. retry-holds x (held x h) u 29)
+
+    pub cut-kept : holdsOf (cutOf x .left) ≡ true
+    cut-kept = unless-gives Kept (entryOf (holdsOf x) (x .receiver .ended)) x _ (λ n. h) (by-test Kept (eqb (x .state) UNANSWERED) _ _ (λ e. retry-holds x (held x h) (eqb-true _ _ e) 30) h)
+
+    pub loss-kept : holdsOf (lossOf x .left) ≡ true
+    loss-kept = unless-gives Kept (entryOf (holdsOf x) (x .receiver .ended)) x _ (λ n. h) (failed-holds x (held x h) 31)
+
+    pub arrival-kept : (f : List ℕ) (m : ℕ) → holdsOf (writeArrivalOf x f m .left) ≡ true
+    arrival-kept f m = arrived-same f m h .0

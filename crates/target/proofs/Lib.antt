@@ -1,7 +1,7 @@
 pub mod Held
 pub mod Lowest
 pub mod Issue
-pub mod Told
 pub mod Views
+pub mod ReadSteps
 pub mod Ended
 pub mod Kept

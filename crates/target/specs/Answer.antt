@@ -1,93 +1,46 @@
 -- ACK, NAK, timeout, cut and nexus loss at the target's XFER_RDY.
-use Prim.Native.Nat.{_+_}
-use mathlib.Core.Bool.{Bool, true, false}
-use lib.Dec.{ltb}
-use Rattle.status.specs.Pick.{pick}
-use Rattle.status.specs.Entry.{entryOf}
-use Rattle.status.specs.declared.Entry.{Entry}
-use Rattle.status.specs.declared.Entry.the-variants.{Open, Closed}
-use Rattle.status.specs.declared.Refusal.the-variants.{AnswerWithoutFrame}
-use Rattle.status.specs.declared.Failure.{Failure}
-use Rattle.status.specs.declared.Failure.the-variants.{NakReceived, AckNakTimeout, ConnectionLost, NexusLoss}
-use Rattle.target.specs.Record.{holdsOf, unless, failedOf}
+use Prim.Native.Nat.{ℕ, _+_}
+use mathlib.Core.Bool.{false}
+use lib.Dec.{ltb, eqb}
+use Rattle.status.specs.Pick.{pick, _with_}
+use Rattle.status.specs.Entry.{entryOf, answerableOf}
+use Rattle.status.specs.Answer.{Word, Said, Left, _saying_, unless}
+use Rattle.status.specs.declared.entry.Entry.{Entry}
+use Rattle.receiver.specs.Fields.{expected≔, filled≔, waiting≔}
+use Rattle.target.specs.Fields.{receiver≔, state≔, retries≔}
+use Rattle.target.specs.Record.{UNANSWERED, AGAIN, READY, holdsOf, failedOf}
 use Rattle.target.specs.declared.types.Target.{Target}
-use Rattle.target.specs.declared.types.Stepped.{Stepped}
-use Rattle.target.specs.declared.types.Report.{Report}
-
--- 1, 2, then "4: ACK, NAK or timeout, none unanswered"
-abbrev pub fourOf : Entry → Bool → Entry
-fourOf (Closed r) some = Closed r
-fourOf Open some = pick some Open (Closed AnswerWithoutFrame)
-
-unfoldable pub answerableOf : Target → Entry
-answerableOf x = fourOf (entryOf (holdsOf x) (x .receiver .ended)) (x .unanswered)
 
 -- "At its ACK, expected offset and filled mark are the burst's base"
-abbrev pub acknowledgedOf : Target → Stepped
+abbrev pub acknowledgedOf : Target → Target
 acknowledgedOf x =
-    record {
-      target =
-          record {
-            receiver =
-                record {
-                  transfer = x .receiver .transfer;
-                  base = x .receiver .base;
-                  end = x .receiver .end;
-                  expected = x .receiver .base;
-                  filled = x .receiver .base;
-                  waiting = false;
-                  ended = x .receiver .ended;
-                };
-            issued = x .issued;
-            tptt = x .tptt;
-            unanswered = false;
-            again = false;
-            ready = true;
-            retries = x .retries;
-            stored = x .stored;
-            under = x .under;
-            since = x .since;
-          };
-      report = Report.Acknowledged;
-    }
+    x with receiver≔ (x .receiver with expected≔ (x .receiver .base) with filled≔ (x .receiver .base) with waiting≔ false) with state≔ READY
 
 -- "After NAK, timeout or cut it is sent again within the limit"
-abbrev pub retriedOf : Target → Stepped
-retriedOf x =
-    record {
-      target =
-          record {
-            receiver = x .receiver;
-            issued = x .issued;
-            tptt = x .tptt;
-            unanswered = false;
-            again = true;
-            ready = x .ready;
-            retries = x .retries + 1;
-            stored = x .stored;
-            under = x .under;
-            since = x .since;
-          };
-      report = Report.Retry;
-    }
+abbrev pub retriedOf : Target → Target
+retriedOf x = x with state≔ AGAIN with retries≔ (x .retries + 1)
 
 -- "28, 29, 30: retry limit used up"; with retries off the first NAK, timeout or cut fails
-unfoldable pub retryOf : Target → Failure → Stepped
-retryOf x cause = pick (ltb (x .retries) (x .receiver .transfer .limit)) (retriedOf x) (failedOf x cause)
+unfoldable pub retryOf : Target → ℕ → Left Target
+retryOf x cause = pick (ltb (x .retries) (x .receiver .transfer .limit)) (retriedOf x saying Said.told Word.retry) (failedOf x cause)
 
-abbrev pub ackOf : Target → Stepped
-ackOf x = unless (answerableOf x) x (acknowledgedOf x)
+-- 1, 2, then 4
+unfoldable pub answersOf : Target → Entry
+answersOf x = answerableOf (holdsOf x) (x .receiver .ended) (eqb (x .state) UNANSWERED)
 
-abbrev pub nakOf : Target → Stepped
-nakOf x = unless (answerableOf x) x (retryOf x NakReceived)
+abbrev pub ackOf : Target → Left Target
+ackOf x = unless (answersOf x) x (acknowledgedOf x saying Said.told Word.acknowledged)
 
-abbrev pub timeoutOf : Target → Stepped
-timeoutOf x = unless (answerableOf x) x (retryOf x AckNakTimeout)
+abbrev pub nakOf : Target → Left Target
+nakOf x = unless (answersOf x) x (retryOf x 28)
+
+abbrev pub timeoutOf : Target → Left Target
+timeoutOf x = unless (answersOf x) x (retryOf x 29)
 
 -- "A cut with none changes nothing"
-abbrev pub cutOf : Target → Stepped
-cutOf x = unless (entryOf (holdsOf x) (x .receiver .ended)) x (pick (x .unanswered) (retryOf x ConnectionLost) (record { target = x; report = Report.Unchanged }))
+abbrev pub cutOf : Target → Left Target
+cutOf x = unless (entryOf (holdsOf x) (x .receiver .ended)) x (pick (eqb (x .state) UNANSWERED) (retryOf x 30) (x saying Said.told Word.unchanged))
 
 -- "31: reported by the port layer"
-abbrev pub lossOf : Target → Stepped
-lossOf x = unless (entryOf (holdsOf x) (x .receiver .ended)) x (failedOf x NexusLoss)
+abbrev pub lossOf : Target → Left Target
+lossOf x = unless (entryOf (holdsOf x) (x .receiver .ended)) x (failedOf x 31)

@@ -1,23 +1,28 @@
 -- What arrives at the target of a read command: it takes no frame, so every one is 5 or 6, after 1 and 2.
 use Prim.Native.Nat.{ℕ}
-use mathlib.Core.List.{List}
+use mathlib.Core.List.{List, [], _∷_}
+use mathlib.Core.Bool.{Bool, not}
+use Rattle.status.specs.Pick.{all}
 use Rattle.status.specs.Entry.{entryOf}
-use Rattle.status.specs.declared.Entry.{Entry}
-use Rattle.status.specs.declared.Refusal.{Refusal}
-use Rattle.status.specs.declared.Refusal.the-variants.{UnexpectedFrameType}
-use Rattle.frame.specs.Read.{decode}
-use Rattle.frame.specs.declared.types.Decoded.{Decoded}
+use Rattle.status.specs.Answer.{Said, Left, _saying_, unless}
+use Rattle.status.specs.Outcome.{Outcome}
+use Rattle.arrival.specs.Accept.{acceptOf}
+use Rattle.arrival.specs.declared.Role.the-variants.{ReadTarget}
+use Rattle.arrival.specs.declared.Arrived.{Arrived}
 use Rattle.sender.specs.Record.{holdsOf}
 use Rattle.sender.specs.declared.types.Sender.{Sender}
 
--- 5, else 6
-abbrev pub noneOf : Decoded → Refusal
-noneOf (Decoded.Refused why) = why
-noneOf (Decoded.Frame h start len) = UnexpectedFrameType
+-- 1 as for the sending port; the record is a read's
+abbrev pub readTests : Sender → List Bool
+readTests s = holdsOf s ∷ not (s .transfer .write) ∷ []
 
-abbrev pub refusalOf : Entry → List ℕ → Refusal
-refusalOf (Entry.Closed why) f = why
-refusalOf Entry.Open f = noneOf (decode f)
+unfoldable pub readHoldsOf : Sender → Bool
+readHoldsOf s = all (readTests s)
 
-unfoldable pub readOf : Sender → List ℕ → Refusal
-readOf s f = refusalOf (entryOf (holdsOf s) (s .ended)) f
+-- none is taken: 5, else 6
+abbrev pub noneOf : Outcome Arrived → Sender → Left Sender
+noneOf (Outcome.number n) s = s saying Said.refused n
+noneOf (Outcome.value a) s = s saying Said.refused 6
+
+unfoldable pub readArrivalOf : Sender → List ℕ → Left Sender
+readArrivalOf s f = unless (entryOf (readHoldsOf s) (s .ended)) s (noneOf (acceptOf ReadTarget (s .transfer) f) s)

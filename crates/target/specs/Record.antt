@@ -1,75 +1,68 @@
--- The target's record in a write command: the tests of number 1, refusal, failure, set-up.
+-- The target's record in a write command: the XFER_RDY's state, the tests of number 1, failure, set-up.
+use Prim.Native.Nat.{ℕ}
 use mathlib.Core.List.{List, [], _∷_}
-use mathlib.Core.Bool.{Bool, false}
-use lib.Dec.{leb}
-use Rattle.status.specs.Pick.{pick, all}
-use Rattle.status.specs.declared.Entry.{Entry}
-use Rattle.status.specs.declared.Refusal.{Refusal}
-use Rattle.status.specs.declared.Refusal.the-variants.{BadRequest}
-use Rattle.status.specs.declared.Failure.{Failure}
+use mathlib.Core.Bool.{Bool, true, false, _||_}
+use lib.Dec.{leb, ltb, eqb}
+use Rattle.status.specs.Pick.{pick, all, _with_}
+use Rattle.status.specs.Number.{refusalNumber}
+use Rattle.status.specs.Answer.{Said, says, Left, _saying_}
+use Rattle.status.specs.Outcome.{Outcome, granted}
 use Rattle.transfer.specs.Limits.{limitsHold}
 use Rattle.transfer.specs.declared.Transfer.{Transfer}
+use Rattle.receiver.specs.Fields.{ended≔}
+use Rattle.receiver.specs.Record.{beginning}
 use Rattle.receiver.specs.Record as receiver
+use Rattle.target.specs.Fields.{receiver≔, state≔}
 use Rattle.target.specs.declared.types.Target.{Target}
 use Rattle.target.specs.declared.types.Stepped.{Stepped}
-use Rattle.target.specs.declared.types.Report.{Report}
 use Rattle.target.specs.declared.types.Setup.{Setup}
+use Rattle.target.specs.declared.types.Setup.the-variants.{Ready, Refused}
 
--- 1 as for the receiving port; the record is a write's; retries at most the limit, tags handed out since a store at most 16,
--- the greatest retry limit and one. `issued`: an XFER_RDY was handed out, `tptt` is its tag; `again`: it is to be sent again; `ready`: it had its ACK;
--- `stored`, `under`: DATA was stored, last under that tag; `since`: tags handed out since
+-- the XFER_RDY's state: none was handed out yet; its answer is due; it is to be sent again; it had its ACK
+abbrev pub NONE : ℕ
+NONE = 0
+
+abbrev pub UNANSWERED : ℕ
+UNANSWERED = 1
+
+abbrev pub AGAIN : ℕ
+AGAIN = 2
+
+abbrev pub READY : ℕ
+READY = 3
+
+-- 1 as for the receiving port; the record is a write's; one of the four states; "write burst 1 to the byte count", once an XFER_RDY was handed out; retries at most
+-- the limit; tags handed out since a store at most 16, the greatest retry limit and one.
+-- `tptt` is the tag of the XFER_RDY handed out last; `stored`, `under`: DATA was stored, last under that tag; `since`: tags handed out since
 unfoldable pub tests : Target → List Bool
-tests x = receiver.holdsOf (x .receiver) ∷ x .receiver .transfer .write ∷ leb (x .retries) (x .receiver .transfer .limit) ∷ leb (x .since) 16 ∷ []
+tests x =
+    receiver.holdsOf (x .receiver) ∷ x .receiver .transfer .write ∷
+    leb (x .state) READY ∷ (eqb (x .state) NONE || ltb (x .receiver .base) (x .receiver .end)) ∷
+    leb (x .retries) (x .receiver .transfer .limit) ∷ leb (x .since) 16 ∷ []
 
 unfoldable pub holdsOf : Target → Bool
 holdsOf x = all (tests x)
 
--- a refusal leaves the record as it was
-abbrev pub refusedBy : Target → Refusal → Stepped
-refusedBy x why = record { target = x; report = Report.Refused why }
-
-abbrev pub unless : Entry → Target → Stepped → Stepped
-unless Entry.Open x y = y
-unless (Entry.Closed why) x y = refusedBy x why
-
 -- "failures that end the port": nothing is unanswered then
-abbrev pub failedOf : Target → Failure → Stepped
-failedOf x why =
-    record {
-      target =
-          record {
-            receiver = receiver.failedOf (x .receiver) why .receiver;
-            issued = x .issued;
-            tptt = x .tptt;
-            unanswered = false;
-            again = x .again;
-            ready = x .ready;
-            retries = x .retries;
-            stored = x .stored;
-            under = x .under;
-            since = x .since;
-          };
-      report = Report.Failed why;
-    }
+abbrev pub failedOf : Target → ℕ → Left Target
+failedOf x n =
+    (x with receiver≔ (x .receiver with ended≔ true) with state≔ (pick (eqb (x .state) UNANSWERED) AGAIN (x .state))) saying Said.failed n 0
 
 -- no XFER_RDY is handed out yet: an empty burst at 0, filled
 abbrev pub startOf : Transfer → Target
-startOf t =
-    record {
-      receiver = record { transfer = t; base = 0; end = 0; expected = 0; filled = 0; waiting = false; ended = false };
-      issued = false;
-      tptt = 0;
-      unanswered = false;
-      again = false;
-      ready = false;
-      retries = 0;
-      stored = false;
-      under = 0;
-      since = 0;
-    }
+startOf t = record { receiver = beginning t 0 0; state = NONE; tptt = 0; retries = 0; stored = false; under = 0; since = 0 }
 
 abbrev pub setUpTests : Transfer → List Bool
 setUpTests t = limitsHold t ∷ t .write ∷ []
 
-unfoldable pub setUpOf : Transfer → Setup
-setUpOf t = pick (all (setUpTests t)) (Setup.Ready (startOf t)) (Setup.Refused BadRequest)
+abbrev pub setUpWriteOf : Transfer → Outcome Target
+setUpWriteOf t = granted (all (setUpTests t)) (startOf t)
+
+-- what the set-up answers: the record, or a number
+abbrev pub made : Setup → Outcome Target
+made (Ready x) = Outcome.value x
+made (Refused why) = Outcome.number (refusalNumber why)
+
+-- what an event leaves and answers
+abbrev pub stepped : Stepped → Left Target
+stepped y = y .target saying says (y .answer)

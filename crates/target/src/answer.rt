@@ -1,69 +1,60 @@
 // ACK, NAK, timeout, cut and nexus loss at the XFER_RDY.
 ghost use mathlib.Core.Path.{_≡_};
-ghost use Rattle.target.specs.Answer.{answerableOf, acknowledgedOf, retryOf, ackOf, nakOf, timeoutOf, cutOf, lossOf};
+ghost use Rattle.status.specs.Number.{failureNumber};
+ghost use Rattle.status.specs.Answer.{Word, Said, _saying_};
+ghost use Rattle.target.specs.Record.{stepped};
+ghost use Rattle.target.specs.Answer.{answersOf, acknowledgedOf, retryOf, ackOf, nakOf, timeoutOf, cutOf, lossOf};
 use crate::record;
-use crate::types::Report;
 use crate::types::Stepped;
 use crate::types::Target;
+use status::Answer;
 use status::Entry;
 use status::Failure;
-use status::Refusal;
 
 // 1, 2, then 4.
 fn answerable(x: Target) -> Entry
-    ensures { λ r. ⌜ r ≡ answerableOf x ⌝ }
+    ensures { λ r. ⌜ r ≡ answersOf x ⌝ }
 {
     let ok = record::holds(x);
     let ended = x.receiver.ended;
-    match status::admit(ok, ended) {
-        Entry::Closed(why) => Entry::Closed(why),
-        Entry::Open => {
-            if x.unanswered {
-                Entry::Open
-            } else {
-                Entry::Closed(Refusal::AnswerWithoutFrame)
-            }
-        }
-    }
+    status::answerable(ok, ended, x.state == Target::UNANSWERED)
 }
 
 // At its ACK, expected offset and filled mark are the burst's base.
 fn acknowledged(mut x: Target) -> Stepped
-    ensures { λ r. ⌜ r ≡ acknowledgedOf x ⌝ }
+    ensures { λ y. ⌜ stepped y ≡ (acknowledgedOf x saying Said.told Word.acknowledged) ⌝ }
 {
     let mut r = x.receiver;
     r.expected = r.base;
     r.filled = r.base;
     r.waiting = false;
     x.receiver = r;
-    x.unanswered = false;
-    x.again = false;
-    x.ready = true;
+    x.state = Target::READY;
     Stepped {
         target: x,
-        report: Report::Acknowledged,
+        answer: Answer::Acknowledged,
     }
 }
 
 fn retry(mut x: Target, cause: Failure) -> Stepped
-    ensures { λ r. ⌜ r ≡ retryOf x cause ⌝ }
+    ensures { λ y. ⌜ stepped y ≡ retryOf x (failureNumber cause) ⌝ }
 {
     let limit = x.receiver.transfer.limit;
     if x.retries < limit {
         x.retries = x.retries + 1;
-        x.unanswered = false;
-        x.again = true;
+        x.state = Target::AGAIN;
         Stepped {
             target: x,
-            report: Report::Retry,
+            answer: Answer::Retry,
         }
     } else {
         record::failed(x, cause)
     }
 }
 
+// 1, 2, 4, else acknowledged.
 pub fn ack_received(x: Target) -> Stepped
-    ensures { λ r. ⌜ r ≡ ackOf x ⌝ }
+    ensures { λ y. ⌜ stepped y ≡ ackOf x ⌝ }
 {
     match answerable(x) {
         Entry::Closed(why) => record::refused(x, why),
@@ -71,8 +62,9 @@ pub fn ack_received(x: Target) -> Stepped
     }
 }
 
+// 1, 2, 4; retry or 28.
 pub fn nak_received(x: Target) -> Stepped
-    ensures { λ r. ⌜ r ≡ nakOf x ⌝ }
+    ensures { λ y. ⌜ stepped y ≡ nakOf x ⌝ }
 {
     match answerable(x) {
         Entry::Closed(why) => record::refused(x, why),
@@ -80,8 +72,9 @@ pub fn nak_received(x: Target) -> Stepped
     }
 }
 
+// 1, 2, 4; retry or 29.
 pub fn ack_nak_timeout(x: Target) -> Stepped
-    ensures { λ r. ⌜ r ≡ timeoutOf x ⌝ }
+    ensures { λ y. ⌜ stepped y ≡ timeoutOf x ⌝ }
 {
     match answerable(x) {
         Entry::Closed(why) => record::refused(x, why),
@@ -89,28 +82,30 @@ pub fn ack_nak_timeout(x: Target) -> Stepped
     }
 }
 
+// 1, 2; unchanged, retry or 30.
 pub fn connection_lost(x: Target) -> Stepped
-    ensures { λ r. ⌜ r ≡ cutOf x ⌝ }
+    ensures { λ y. ⌜ stepped y ≡ cutOf x ⌝ }
 {
     let ok = record::holds(x);
     let ended = x.receiver.ended;
     match status::admit(ok, ended) {
         Entry::Closed(why) => record::refused(x, why),
         Entry::Open => {
-            if x.unanswered {
+            if x.state == Target::UNANSWERED {
                 retry(x, Failure::ConnectionLost)
             } else {
                 Stepped {
                     target: x,
-                    report: Report::Unchanged,
+                    answer: Answer::Unchanged,
                 }
             }
         }
     }
 }
 
+// 1, 2, else 31.
 pub fn nexus_lost(x: Target) -> Stepped
-    ensures { λ r. ⌜ r ≡ lossOf x ⌝ }
+    ensures { λ y. ⌜ stepped y ≡ lossOf x ⌝ }
 {
     let ok = record::holds(x);
     let ended = x.receiver.ended;

@@ -1,38 +1,22 @@
 // Arrivals of any bytes in a write command: the target takes DATA.
 ghost use mathlib.Core.Path.{_≡_};
-ghost use lib.ListN.{length};
-ghost use Rattle.frame.specs.Read.{headerOf, iuOf};
-ghost use Rattle.receiver.specs.Arrival.{after};
-ghost use Rattle.target.specs.Arrival.{takesData, freedOf, withReceiver, lifted, refusedBy, takenOf, screenOf, framedOf, lentOf, arrivedOf};
+ghost use lib.ListN.{length, take, drop};
+ghost use Prim.Native.Nat.{_+_, _≤_};
+ghost use Rattle.frame.specs.Read.{headerIn, iuOf};
+ghost use Rattle.receiver.specs.DataFrame.{storing};
+ghost use Rattle.receiver.specs.Record as receiver;
+ghost use Rattle.target.specs.Record.{stepped};
+ghost use Rattle.target.specs.Arrival.{freedOf, liftedOf, isCurrent, takenOf, lentOf, writeArrivalOf};
 use crate::record;
-use crate::types::Arrived;
+use crate::types::Stepped;
 use crate::types::Target;
-use frame::Decoded;
+use arrival::Accepted;
+use arrival::Arrived;
+use arrival::Role;
 use frame::Header;
-use receiver::Arrival;
-use receiver::Received;
-use receiver::Receiver;
+use status::Answer;
 use status::Entry;
 use status::Refusal;
-
-// One match on the type byte: the target of a write takes DATA.
-fn takes(kind: u8) -> bool
-    ensures { λ r. ⌜ r ≡ takesData kind ⌝ }
-{
-    match kind {
-        0x01 => true,
-        _ => false,
-    }
-}
-
-fn refused(x: Target, why: Refusal) -> Arrived
-    ensures { λ y. ⌜ y ≡ refusedBy x why ⌝ }
-{
-    Arrived {
-        target: x,
-        arrival: Arrival::Refused(why),
-    }
-}
 
 // DATA stored under the current tag: the earlier ones leave use.
 fn freed(mut x: Target) -> Target
@@ -44,96 +28,55 @@ fn freed(mut x: Target) -> Target
     x
 }
 
-fn with_receiver(mut x: Target, r: Receiver) -> Target
-    ensures { λ y. ⌜ y ≡ withReceiver x r ⌝ }
-{
-    x.receiver = r;
-    x
-}
-
 // The receiving port's answer.
-fn lift(x: Target, z: Received) -> Arrived
-    ensures { λ y. ⌜ y ≡ lifted x z ⌝ }
+fn lift(mut x: Target, z: receiver::Stepped) -> Stepped
+    ensures { λ y. ⌜ stepped y ≡ liftedOf x (receiver.stepped z) ⌝ }
 {
     let r = z.receiver;
-    let a = z.arrival;
-    let y = with_receiver(x, r);
-    match a {
-        Arrival::Stored => Arrived {
-            target: freed(y),
-            arrival: a,
-        },
-        Arrival::Received => Arrived {
-            target: freed(y),
-            arrival: a,
-        },
-        Arrival::Discarded => Arrived {
-            target: y,
-            arrival: a,
-        },
-        Arrival::Refused(_) => Arrived {
-            target: y,
-            arrival: a,
-        },
-        Arrival::Failed(_) => Arrived {
-            target: y,
-            arrival: a,
-        },
+    let a = z.answer;
+    x.receiver = r;
+    if a.stores() {
+        return Stepped {
+            target: freed(x),
+            answer: a,
+        };
+    }
+    Stepped {
+        target: x,
+        answer: a,
     }
 }
 
-// 6, 7, 8; 8 also for a transfer tag that is not current.
-fn screen(x: Target, h: Header) -> Entry
-    ensures { λ r. ⌜ r ≡ screenOf x h ⌝ }
+// The DATA carries the tag of the last XFER_RDY handed out.
+fn is_current(x: Target, h: Header) -> bool
+    ensures { λ r. ⌜ r ≡ isCurrent x h ⌝ }
 {
-    let t = x.receiver.transfer;
-    match arrival::screen(t, h, takes(h.kind)) {
-        Entry::Closed(why) => Entry::Closed(why),
-        Entry::Open => {
-            if x.issued & (h.tptt == x.tptt) {
-                Entry::Open
-            } else {
-                Entry::Closed(Refusal::UnknownTag)
-            }
-        }
-    }
+    (x.state != Target::NONE) & (h.tptt == x.tptt)
 }
 
-// DATA that has passed 5 to 8: discarded until the XFER_RDY's ACK, then the receiving port's.
-fn take(x: Target, h: Header, iu: &[u8], buffer: &mut [u8]) -> Arrived
-    ensures { λ y. ⌜ (y ≡ takenOf x h (length (now (iu .entry))) (length (now (buffer .entry)))) × (now (buffer .exit) ≡ after (takenOf x h (length (now (iu .entry))) (length (now (buffer .entry))) .arrival) (h .offset) (now (iu .entry)) (now (buffer .entry))) ⌝ }
+// DATA that has passed 5 to 7 and the tag: 8 for its transfer tag; discarded until the XFER_RDY's ACK, then the receiving port's.
+fn take(x: Target, a: Arrived, bytes: &[u8], buffer: &mut [u8]) -> Stepped
+    requires { ⌜ a .start + a .len ≤ length (now bytes) ⌝ }
+    ensures { λ y. ⌜ (stepped y ≡ takenOf x a (length (now (buffer .entry)))) × (now (buffer .exit) ≡ storing (takenOf x a (length (now (buffer .entry))) .says) (a .header .offset) (take (a .len) (drop (a .start) (now (bytes .entry)))) (now (buffer .entry))) ⌝ }
 {
-    if x.ready {
-        let flags = h.flags;
-        let r = x.receiver;
-        lift(
-            x,
-            receiver::data_received(r, h.offset, flags.cdp, iu, buffer),
-        )
-    } else {
-        Arrived {
+    let h = a.header;
+    if !is_current(x, h) {
+        return record::refused(x, Refusal::UnknownTag);
+    }
+    if x.state != Target::READY {
+        return Stepped {
             target: x,
-            arrival: Arrival::Discarded,
-        }
+            answer: Answer::Discarded,
+        };
     }
-}
-
-// Any bytes: 5, 6, 7, 8, then DATA.
-fn framed(x: Target, bytes: &[u8], buffer: &mut [u8]) -> Arrived
-    ensures { λ y. ⌜ (y ≡ framedOf x (now (bytes .entry)) (length (now (buffer .entry)))) × (now (buffer .exit) ≡ after (framedOf x (now (bytes .entry)) (length (now (buffer .entry))) .arrival) (headerOf (now (bytes .entry)) .offset) (iuOf (now (bytes .entry))) (now (buffer .entry))) ⌝ }
-{
-    match frame::read(bytes) {
-        Decoded::Refused(why) => refused(x, why),
-        Decoded::Frame { header, start, len } => {
-            match screen(x, header) {
-                Entry::Closed(why) => refused(x, why),
-                Entry::Open => {
-                    let past = start + len;
-                    take(x, header, &bytes[start..past], buffer)
-                }
-            }
-        }
-    }
+    let start = a.start;
+    let past = start + a.len;
+    let flags = h.flags;
+    let r = x.receiver;
+    lift(
+        x,
+        receiver::data_received(r, h.offset, flags.cdp, &bytes[start..past], buffer),
+    )
 }
 
 // Number 1 does not apply, the data buffer's length included.
@@ -145,13 +88,20 @@ fn lent(x: Target, n: usize) -> bool
     holds & (n == count)
 }
 
-pub fn write_frame_received(x: Target, bytes: &[u8], buffer: &mut [u8]) -> Arrived
-    ensures { λ y. ⌜ (y ≡ arrivedOf x (now (bytes .entry)) (length (now (buffer .entry)))) × (now (buffer .exit) ≡ after (arrivedOf x (now (bytes .entry)) (length (now (buffer .entry))) .arrival) (headerOf (now (bytes .entry)) .offset) (iuOf (now (bytes .entry))) (now (buffer .entry))) ⌝ }
+// 1, 2, 5, 6, 7, 8 (tag, then TPTT); discarded (no ACK yet); then as the receiving port: discarded (filled), 20, 21, 22, discarded, stored or received.
+pub fn write_frame_received(x: Target, bytes: &[u8], buffer: &mut [u8]) -> Stepped
+    ensures { λ y. ⌜ (stepped y ≡ writeArrivalOf x (now (bytes .entry)) (length (now (buffer .entry)))) × (now (buffer .exit) ≡ storing (writeArrivalOf x (now (bytes .entry)) (length (now (buffer .entry))) .says) (headerIn (now (bytes .entry)) .offset) (iuOf (now (bytes .entry))) (now (buffer .entry))) ⌝ }
 {
     let ok = lent(x, buffer.len());
     let ended = x.receiver.ended;
     match status::admit(ok, ended) {
-        Entry::Closed(why) => refused(x, why),
-        Entry::Open => framed(x, bytes, buffer),
+        Entry::Closed(why) => record::refused(x, why),
+        Entry::Open => {
+            let t = x.receiver.transfer;
+            match arrival::accept(Role::WriteTarget, t, bytes) {
+                Accepted::Refused(why) => record::refused(x, why),
+                Accepted::Frame(a) => take(x, a, bytes, buffer),
+            }
+        }
     }
 }

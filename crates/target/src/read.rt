@@ -1,24 +1,34 @@
-// Arrivals at the target of a read command: it takes none. 1, 2, 5, else 6.
+// Arrivals at the target of a read command: it takes none.
 ghost use mathlib.Core.Path.{_≡_};
-ghost use Rattle.target.specs.Read.{readOf};
-use frame::Decoded;
+ghost use Rattle.sender.specs.Record.{stepped};
+ghost use Rattle.target.specs.Read.{readArrivalOf};
+use arrival::Accepted;
+use arrival::Role;
 use sender::Sender;
+use status::Answer;
 use status::Entry;
 use status::Refusal;
 
-pub fn read_frame_received(s: Sender, bytes: &[u8]) -> Refusal
-    ensures { λ r. ⌜ r ≡ readOf s (now (bytes .entry)) ⌝ }
+// 1, 2, 5, else 6: always a refusal.
+pub fn read_frame_received(s: Sender, bytes: &[u8]) -> sender::Stepped
+    ensures { λ r. ⌜ stepped r ≡ readArrivalOf s (now (bytes .entry)) ⌝ }
 {
-    let ok = sender::holds(s);
-    match status::admit(ok, s.ended) {
-        Entry::Closed(why) => why,
-        Entry::Open => match frame::read(bytes) {
-            Decoded::Refused(why) => why,
-            Decoded::Frame {
-                header: _,
-                start: _,
-                len: _,
-            } => Refusal::UnexpectedFrameType,
+    let holds = sender::holds(s);
+    let t = s.transfer;
+    match status::admit(holds & !t.write, s.ended) {
+        Entry::Closed(why) => sender::Stepped {
+            sender: s,
+            answer: Answer::Refused(why),
+        },
+        Entry::Open => match arrival::accept(Role::ReadTarget, t, bytes) {
+            Accepted::Refused(why) => sender::Stepped {
+                sender: s,
+                answer: Answer::Refused(why),
+            },
+            Accepted::Frame(_) => sender::Stepped {
+                sender: s,
+                answer: Answer::Refused(Refusal::UnexpectedFrameType),
+            },
         },
     }
 }

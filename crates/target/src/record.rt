@@ -1,69 +1,67 @@
 // The record: its set-up, and the tests of number 1.
 ghost use mathlib.Core.Path.{_≡_};
-ghost use Rattle.target.specs.Record.{holdsOf, refusedBy, failedOf, setUpOf};
-use crate::types::Report;
+ghost use Rattle.status.specs.Number.{refusalNumber, failureNumber};
+ghost use Rattle.status.specs.Answer.{Said, _saying_};
+ghost use Rattle.target.specs.Record.{holdsOf, failedOf, made, setUpWriteOf, stepped};
 use crate::types::Setup;
 use crate::types::Stepped;
 use crate::types::Target;
-use receiver::Receiver;
+use status::Answer;
 use status::Failure;
 use status::Refusal;
 use transfer::Transfer;
 
-// Number 1 does not apply: limits, marks and counts are in order.
+// Number 1 does not apply: limits, marks, state and counts are in order.
 pub fn holds(x: Target) -> bool
     ensures { λ r. ⌜ r ≡ holdsOf x ⌝ }
 {
     let r = x.receiver;
     let t = r.transfer;
     let core = receiver::holds(r);
-    core & t.write & (x.retries <= t.limit) & (x.since <= 16)
+    core
+        & t.write
+        & (x.state <= Target::READY)
+        & ((x.state == Target::NONE) | (r.base < r.end))
+        & (x.retries <= t.limit)
+        & (x.since <= 16)
 }
 
+// A refusal leaves the record as it was.
 pub(crate) fn refused(x: Target, why: Refusal) -> Stepped
-    ensures { λ y. ⌜ y ≡ refusedBy x why ⌝ }
+    ensures { λ y. ⌜ stepped y ≡ (x saying Said.refused (refusalNumber why)) ⌝ }
 {
     Stepped {
         target: x,
-        report: Report::Refused(why),
+        answer: Answer::Refused(why),
     }
 }
 
 // A failure ends the port: nothing is unanswered.
 pub(crate) fn failed(mut x: Target, why: Failure) -> Stepped
-    ensures { λ y. ⌜ y ≡ failedOf x why ⌝ }
+    ensures { λ y. ⌜ stepped y ≡ failedOf x (failureNumber why) ⌝ }
 {
     let mut r = x.receiver;
     r.ended = true;
     x.receiver = r;
-    x.unanswered = false;
+    if x.state == Target::UNANSWERED {
+        x.state = Target::AGAIN;
+    }
     Stepped {
         target: x,
-        report: Report::Failed(why),
+        answer: Answer::Failed(why, 0),
     }
 }
 
-// No XFER_RDY is handed out yet: an empty burst at 0, filled.
+// No XFER_RDY is handed out yet: 1, else the record with an empty burst at 0, filled.
 pub fn set_up_write(t: Transfer) -> Setup
-    ensures { λ r. ⌜ r ≡ setUpOf t ⌝ }
+    ensures { λ r. ⌜ made r ≡ setUpWriteOf t ⌝ }
 {
     let limits = t.limits_hold();
     if limits & t.write {
         Setup::Ready(Target {
-            receiver: Receiver {
-                transfer: t,
-                base: 0,
-                end: 0,
-                expected: 0,
-                filled: 0,
-                waiting: false,
-                ended: false,
-            },
-            issued: false,
+            receiver: receiver::begin(t, 0, 0),
+            state: Target::NONE,
             tptt: 0,
-            unanswered: false,
-            again: false,
-            ready: false,
             retries: 0,
             stored: false,
             under: 0,

@@ -2,17 +2,18 @@
 ghost use mathlib.Core.Path.{_≡_};
 ghost use mathlib.Core.Bool.{true};
 ghost use Prim.Native.Nat.{_≤_};
-ghost use Rattle.target.specs.Record.{holdsOf};
-ghost use Rattle.target.specs.Transmit.{dueOf, burstEnd, nextBurst, burstOf, issuedOf, headerOf, iuOf, frameOf, handsOf, nextOf, after};
+ghost use Rattle.frame.specs.Write.{handing};
+ghost use Rattle.target.specs.Record.{holdsOf, stepped};
+ghost use Rattle.target.specs.Transmit.{dueOf, burstEnd, nextBurst, burstOf, issuedOf, xferRdyHeader, xferRdyIu, frameOf, handsOf, nextOf};
 use crate::record;
 use crate::tag;
-use crate::types::Report;
 use crate::types::Stepped;
 use crate::types::Target;
 use frame::Flags;
 use frame::Header;
 use frame::Written;
 use frame::XferRdy;
+use status::Answer;
 use status::Entry;
 
 // One is to be sent again, or the previous burst is filled and the byte count is not reached.
@@ -21,7 +22,8 @@ fn is_due(x: Target) -> bool
 {
     let r = x.receiver;
     let t = r.transfer;
-    !x.unanswered & (x.again | ((r.filled == r.end) & (r.end < t.count)))
+    (x.state == Target::AGAIN)
+        | ((x.state != Target::UNANSWERED) & (r.filled == r.end) & (r.end < t.count))
 }
 
 // The lesser of the burst size and what remains, from the end of the previous burst.
@@ -45,13 +47,10 @@ fn next_burst(mut x: Target) -> Target
     ensures { λ r. ⌜ r ≡ nextBurst x ⌝ }
 {
     let end = burst_end(x);
-    let mut r = x.receiver;
-    r.base = r.end;
-    r.expected = r.end;
-    r.filled = r.end;
-    r.end = end;
-    r.waiting = false;
-    x.receiver = r;
+    let r = x.receiver;
+    let t = r.transfer;
+    let next = receiver::begin(t, r.end, end);
+    x.receiver = next;
     x.retries = 0;
     x
 }
@@ -61,7 +60,11 @@ fn burst(x: Target) -> Target
     requires { ⌜ holdsOf x ≡ true ⌝ }
     ensures { λ r. ⌜ r ≡ burstOf x ⌝ }
 {
-    if x.again { x } else { next_burst(x) }
+    if x.state == Target::AGAIN {
+        x
+    } else {
+        next_burst(x)
+    }
 }
 
 // The record once the XFER_RDY is handed out, under a new tag.
@@ -71,23 +74,20 @@ fn issue(x: Target) -> Target
 {
     let tptt = tag::new_tag(x.stored, x.under, x.since);
     let mut y = burst(x);
-    y.issued = true;
+    y.state = Target::UNANSWERED;
     y.tptt = tptt;
-    y.unanswered = true;
-    y.again = false;
-    y.ready = false;
     y.since = x.since + 1;
     y
 }
 
 // RETRANSMIT is one where it is sent again; `y` is the record that hands it out.
 fn header(y: Target, again: bool) -> Header
-    ensures { λ r. ⌜ r ≡ headerOf y again ⌝ }
+    ensures { λ r. ⌜ r ≡ xferRdyHeader y again ⌝ }
 {
     let r = y.receiver;
     let t = r.transfer;
     Header {
-        kind: 0x05,
+        kind: frame::XFER_RDY,
         dest: t.remote,
         source: t.local,
         flags: Flags {
@@ -103,7 +103,7 @@ fn header(y: Target, again: bool) -> Header
 
 fn iu(y: Target) -> [u8; 12]
     requires { ⌜ y .receiver .base ≤ y .receiver .end ⌝ }
-    ensures { λ r. ⌜ r ≡ iuOf y ⌝ }
+    ensures { λ r. ⌜ r ≡ xferRdyIu y ⌝ }
 {
     let r = y.receiver;
     frame::write_xfer_rdy(XferRdy {
@@ -115,22 +115,23 @@ fn iu(y: Target) -> [u8; 12]
 // An XFER_RDY is due: it goes out, or the output buffer is too short.
 fn transmit(x: Target, out: &mut [u8]) -> Stepped
     requires { ⌜ holdsOf x ≡ true ⌝ }
-    ensures { λ r. ⌜ (r ≡ handsOf x (now (out .entry))) × (now (out .exit) ≡ after (handsOf x (now (out .entry)) .report) (frameOf x) (now (out .entry))) ⌝ }
+    ensures { λ r. ⌜ (stepped r ≡ handsOf x (now (out .entry))) × (now (out .exit) ≡ handing (handsOf x (now (out .entry)) .says) (frameOf x) (now (out .entry))) ⌝ }
 {
     let y = issue(x);
     let bytes = iu(y);
-    let written = frame::write(header(y, x.again), &bytes, out);
+    let written = frame::write(header(y, x.state == Target::AGAIN), &bytes, out);
     match written {
         Written::Frame(length) => Stepped {
             target: y,
-            report: Report::Frame(length),
+            answer: Answer::Frame(length),
         },
-        Written::Refused(r) => record::refused(x, r),
+        Written::Refused(why) => record::refused(x, why),
     }
 }
 
+// 1, 2; wait; 3, else an XFER_RDY of that length.
 pub fn next_frame(x: Target, out: &mut [u8]) -> Stepped
-    ensures { λ r. ⌜ (r ≡ nextOf x (now (out .entry))) × (now (out .exit) ≡ after (nextOf x (now (out .entry)) .report) (frameOf x) (now (out .entry))) ⌝ }
+    ensures { λ r. ⌜ (stepped r ≡ nextOf x (now (out .entry))) × (now (out .exit) ≡ handing (nextOf x (now (out .entry)) .says) (frameOf x) (now (out .entry))) ⌝ }
 {
     let ok = record::holds(x);
     let ended = x.receiver.ended;
@@ -142,7 +143,7 @@ pub fn next_frame(x: Target, out: &mut [u8]) -> Stepped
             } else {
                 Stepped {
                     target: x,
-                    report: Report::Wait,
+                    answer: Answer::Wait,
                 }
             }
         }

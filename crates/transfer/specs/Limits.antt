@@ -1,11 +1,12 @@
 -- "Limits of a transfer": "byte count 1 to 16,777,216. Data per frame a multiple of four, 4 to 1,024. Unanswered frames (the window) 1 to 64.
 -- Retry limit 0 to 15 .. Write burst 1 to the byte count"; and "a hashed address passes 24 bits" is 1 too.
-use Prim.Native.Nat.{ℕ, _%_, _^_, _-_}
+use Prim.Native.Nat.{_%_, _^_, _-_}
 use mathlib.Core.Bool.{Bool}
 use mathlib.Core.List.{List, [], _∷_}
 use lib.Dec.{leb, eqb}
-use Rattle.status.specs.Pick.{pick, all}
-use Rattle.status.specs.declared.Refusal.the-variants.{BadRequest}
+use Rattle.status.specs.Pick.{all}
+use Rattle.status.specs.Number.{refusalNumber}
+use Rattle.status.specs.Outcome.{Outcome, granted}
 use Rattle.transfer.specs.declared.Transfer.{Transfer}
 use Rattle.transfer.specs.declared.Made.{Made}
 use Rattle.transfer.specs.declared.Made.the-variants.{Taken, Refused}
@@ -22,6 +23,11 @@ limits t =
 unfoldable pub limitsHold : Transfer → Bool
 limitsHold t = all (limits t)
 
--- the constructor: a transfer outside the limits is 1
-unfoldable pub madeOf : Transfer → Made
-madeOf t = pick (limitsHold t) (Taken t) (Refused BadRequest)
+-- what the constructor answers: the transfer, or a number
+abbrev pub made : Made → Outcome Transfer
+made (Taken t) = Outcome.value t
+made (Refused why) = Outcome.number (refusalNumber why)
+
+-- a transfer outside the limits is 1
+abbrev pub madeOf : Transfer → Outcome Transfer
+madeOf t = granted (limitsHold t) t

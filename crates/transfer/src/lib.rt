@@ -1,6 +1,6 @@
 // The transfer record: what both ports of a command are set up with. It never changes.
 ghost use mathlib.Core.Path.{_≡_};
-ghost use Rattle.transfer.specs.Limits.{limitsHold, madeOf};
+ghost use Rattle.transfer.specs.Limits.{limitsHold, made, madeOf};
 use status::Refusal;
 
 #[repr(C)]
@@ -67,7 +67,7 @@ impl Transfer {
             & (self.remote <= Transfer::ADDRESS_MOST)
     }
 
-    // A transfer within the limits, else 1. A read is one burst and does not use `burst`, which keeps its limits all the same.
+    // 1, else a transfer within the limits. A read is one burst and does not use `burst`, which keeps its limits all the same.
     pub fn new(
         write: bool,
         count: u32,
@@ -79,7 +79,7 @@ impl Transfer {
         remote: u32,
         tag: u16,
     ) -> Made
-        ensures { λ r. ⌜ r ≡ madeOf (record { write = write; count = count; size = size; window = window; limit = limit; burst = burst; local = local; remote = remote; tag = tag }) ⌝ }
+        ensures { λ r. ⌜ made r ≡ madeOf (record { write = write; count = count; size = size; window = window; limit = limit; burst = burst; local = local; remote = remote; tag = tag }) ⌝ }
     {
         let t = Transfer {
             write: write,

@@ -38,16 +38,4 @@ unfolding decode
 returns-3 c = simp (c .header-of .ensures, c .before .fill-count .ensures) (search choose depth 8)
 
 pub read-spec : {M : Type 1} → statement M
-read-spec =
-    tie.close
-    (tie.spec
-    (λ c κs. search needs)
-    returns
-    shared-slice-read-known
-    (λ c κs. search needs)
-    returns-2
-    sub-len
-    fill-count-requires
-    sub-len-2
-    header-of-requires
-    returns-3)
+read-spec = tie.close (tie.spec (λ c κs. search needs) returns shared-slice-read-known (λ c κs. search needs) returns-2 sub-len fill-count-requires sub-len-2 header-of-requires returns-3)

@@ -38,18 +38,4 @@ returns c =
     laid (a .h) (now (a .iu)) (now (a .out)) _ _ _ _ _ _ (start .before .fill-of .ensures) (start .head .ensures) (first .place .ensures) (second .place2 .ensures) refl (third .place3 .ensures)
 
 pub put-frame-spec : {M : Type 1} → statement M
-put-frame-spec =
-    tie.close
-    (tie.spec
-    (λ c κs. search needs)
-    (λ c. search needs)
-    (λ c κs. search needs)
-    (λ c. search needs)
-    place-requires
-    place-requires-2
-    (λ c. search needs)
-    slice-aggregate-place-2
-    (λ c. search needs)
-    place-requires-3
-    (λ c. search needs)
-    returns)
+put-frame-spec = tie.close (tie.spec (λ c κs. search needs) (λ c. search needs) (λ c κs. search needs) (λ c. search needs) place-requires place-requires-2 (λ c. search needs) slice-aggregate-place-2 (λ c. search needs) place-requires-3 (λ c. search needs) returns)

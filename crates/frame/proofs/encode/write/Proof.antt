@@ -30,15 +30,4 @@ returns-3 c =
     writes (a .h) (now (a .iu)) (now (a .out)) _ _ (b .before .before .fill-of .ensures) (sym (b .before .before .before .before .can-write .ensures) ∙ not-false _ (b .before .before .before .if1 .left)) (b .before .if2 .left) (c .before .before .put-frame .ensures)
 
 pub write-spec : {M : Type 1} → statement M
-write-spec =
-    tie.close
-    (tie.spec
-    (λ c κs. search needs)
-    returns
-    (λ c. search needs)
-    (λ c κs. search needs)
-    (λ c. search needs)
-    returns-2
-    put-frame-requires
-    (λ c. search needs)
-    returns-3)
+write-spec = tie.close (tie.spec (λ c κs. search needs) returns (λ c. search needs) (λ c κs. search needs) (λ c. search needs) returns-2 put-frame-requires (λ c. search needs) returns-3)

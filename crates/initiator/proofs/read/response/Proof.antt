@@ -1,19 +1,19 @@
 use borrow.Author.Needs.{needs}
 use borrow.Author.Tests.{lt-ltb, le-ltb}
+use mathlib.Core.Path.{refl, sym, ap, _∙_}
 use native.Mathlib.Omega.{arith}
-use mathlib.Core.Path.{refl, ap, _∙_}
-use Rattle.status.proofs.Choose.{in-true, in-false}
-use Rattle.initiator.specs.Read.{lifted, responseOf}
+use Rattle.initiator.specs.Read.{responseOf}
+use Rattle.status.proofs.Choose.{choose, in-true, in-false}
 use Rattle.initiator.proofs.read.response.Statement.{statement}
 use Rattle.initiator.proofs.read.response.Tie as tie
 
 returns : tie.Need-returns
 unfolding responseOf
-returns c = in-true _ _ _ _ (lt-ltb (c .before .before .before .args .len) 24 (omega arith)) (c .lift .ensures ∙ ap lifted (c .before .failed .ensures))
+returns c = in-true _ _ _ _ (lt-ltb (c .before .before .args .len) 24 (omega arith)) (c .failed .ensures)
 
 returns-2 : tie.Need-returns-2
 unfolding responseOf
 returns-2 c = in-false _ _ _ _ (le-ltb (c .before .args .len) 24 (omega arith)) refl
 
 pub response-spec : {M : Type 1} → statement M
-response-spec = tie.close (tie.spec (λ c κs. search needs) (λ c κs. search needs) returns returns-2)
+response-spec = tie.close (tie.spec (λ c κs. search needs) returns returns-2)

@@ -1,5 +1,5 @@
 use borrow.Author.Needs.{needs}
-use Rattle.initiator.specs.WriteRecord.{holdsOf, tests}
+use Rattle.initiator.specs.WriteRecord.{tests, holdsOf}
 use Rattle.initiator.proofs.write_record.writer_holds.Statement.{statement}
 use Rattle.initiator.proofs.write_record.writer_holds.Tie as tie
 

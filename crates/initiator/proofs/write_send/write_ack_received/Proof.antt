@@ -1,36 +1,11 @@
 use borrow.Author.Needs.{needs}
-use mathlib.Core.Path.{sym, ap, _∙_}
-use Rattle.status.proofs.Choose.{in-true, in-false}
-use Rattle.initiator.specs.WriteSend.{liftedOf}
-use Rattle.initiator.proofs.WriteTold.{some}
+use mathlib.Core.List.{[]}
+use Rattle.initiator.proofs.WriteCounts.{both, ack-counts}
 use Rattle.initiator.proofs.write_send.write_ack_received.Statement.{statement}
 use Rattle.initiator.proofs.write_send.write_ack_received.Tie as tie
 
-lowered-requires : tie.Need-lowered-requires
-lowered-requires c κs = some _ (sym (c .before .before .before .answerable .ensures) ∙ c .before .enum-told .given .1)
-
 returns : tie.Need-returns
-returns c = rw (sym (c .before .before .before .before .answerable .ensures) ∙ c .before .before .why .given .1) (c .refused .ensures)
-
-returns-2 : tie.Need-returns-2
-returns-2 c = rw (sym (c .before .before .before .before .answerable .ensures) ∙ c .before .before .enum-told .given .1) (in-true _ _ _ _ (c .before .if1 .taken) (c .lowered .ensures))
-
-returns-3 : tie.Need-returns-3
-returns-3 c =
-    rw (sym (c .before .before .before .before .before .before .answerable .ensures) ∙ c .before .before .before .before .enum-told .given .1)
-    (in-false _ _ _ _ (c .before .before .before .if1 .left) (c .lift .ensures ∙ ap (liftedOf (c .before .before .before .before .before .before .before .args .w)) (c .before .ack-received .ensures .0)))
+returns c = both (c .before .before .before .before .args .w) [] (rw ((c .before .ack-received .ensures .0), (c .before .before .less-one .ensures)) at (c .answered .ensures)) (ack-counts (c .before .before .before .before .args .w))
 
 pub write-ack-received-spec : {M : Type 1} → statement M
-write-ack-received-spec =
-    tie.close
-    (tie.spec
-    (λ c κs. search needs)
-    (λ c. search needs)
-    (λ c κs. search needs)
-    (λ c. search needs)
-    lowered-requires
-    (λ c κs. search needs)
-    (λ c κs. search needs)
-    returns
-    returns-2
-    returns-3)
+write-ack-received-spec = tie.close (tie.spec (λ c κs. search needs) (λ c κs. search needs) (λ c κs. search needs) returns)

@@ -1,7 +1,7 @@
 use borrow.Author.Needs.{needs}
-use mathlib.Core.Path.{refl}
-use Rattle.status.proofs.Choose.{in-true, in-false}
+use mathlib.Core.Path.{refl, sym, ap, _∙_}
 use Rattle.initiator.specs.WriteTake.{fitsOf}
+use Rattle.status.proofs.Choose.{choose, in-true, in-false}
 use Rattle.initiator.proofs.write_take.fits.Statement.{statement}
 use Rattle.initiator.proofs.write_take.fits.Tie as tie
 

@@ -1,25 +1,18 @@
 use borrow.Author.Needs.{needs}
-use Rattle.status.proofs.Choose.{choose}
+use borrow.Author.Tests.{eq-eqb, ne-eqb}
+use mathlib.Core.Path.{refl, sym, ap, _∙_}
 use Rattle.initiator.specs.WriteTake.{burstTaken}
+use Rattle.status.specs.Pick.{pick}
 use Rattle.initiator.proofs.write_take.taken.Statement.{statement}
 use Rattle.initiator.proofs.write_take.taken.Tie as tie
 
 returns : tie.Need-returns
-unfolding burstTaken
-returns c = simp (c .started .ensures, c .before .before .before .before .before .handed .ensures, c .before .before .before .before .before .before .limit .ensures) (search choose)
+unfolding burstTaken pick
+returns c = rw (eq-eqb _ _ (c .before .before .if1 .taken)) (simp (c .begin .ensures))
 
 returns-2 : tie.Need-returns-2
-unfolding burstTaken
-returns-2 c = simp (c .pending .ensures, c .before .before .before .before .before .handed .ensures, c .before .before .before .before .before .before .limit .ensures) (search choose)
+unfolding burstTaken pick
+returns-2 c = rw (ne-eqb _ _ (c .if1 .left)) refl
 
 pub taken-spec : {M : Type 1} → statement M
-taken-spec =
-    tie.close
-    (tie.spec
-    (λ c κs. search needs)
-    (λ c κs. search needs)
-    (λ c. search needs)
-    (λ c κs. search needs)
-    (λ c κs. search needs)
-    returns
-    returns-2)
+taken-spec = tie.close (tie.spec (λ c κs. search needs) returns returns-2)

@@ -14,14 +14,4 @@ returns-2 c =
     rw (← b .before .holds .ensures, sym (b .admit .ensures) ∙ c .before .enum-told .given .1) (c .failed .ensures)
 
 pub nexus-lost-spec : {M : Type 1} → statement M
-nexus-lost-spec =
-    tie.close
-    (tie.spec
-    (λ c κs. search needs)
-    (λ c κs. search needs)
-    (λ c. search needs)
-    (λ c κs. search needs)
-    (λ c. search needs)
-    (λ c κs. search needs)
-    returns
-    returns-2)
+nexus-lost-spec = tie.close (tie.spec (λ c κs. search needs) (λ c κs. search needs) (λ c. search needs) (λ c κs. search needs) (λ c. search needs) (λ c κs. search needs) returns returns-2)

@@ -1,10 +1,10 @@
 use mathlib.Core.Path.{refl}
-use Rattle.response.specs.Transmit.{headerOf}
+use Rattle.response.specs.Transmit.{responseHeader}
 use Rattle.response.proofs.transmit.header.Statement.{statement}
 use Rattle.response.proofs.transmit.header.Tie as tie
 
 returns : tie.Need-returns
-unfolding headerOf
+unfolding responseHeader
 returns c = refl
 
 pub header-spec : {M : Type 1} → statement M

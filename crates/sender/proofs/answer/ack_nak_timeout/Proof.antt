@@ -7,7 +7,7 @@ use Rattle.sender.proofs.answer.ack_nak_timeout.Statement.{statement}
 use Rattle.sender.proofs.answer.ack_nak_timeout.Tie as tie
 
 returns : tie.Need-returns
-returns c = both (c .before .before .before .before .before .args .s) [] (rw (sym (c .before .before .before .before .answerable .ensures) ∙ c .before .before .r .given .1) (c .refused .ensures)) (timeout-counts (c .before .before .before .before .before .args .s))
+returns c = both (c .before .before .before .before .before .args .s) [] (rw (sym (c .before .before .before .before .answerable .ensures) ∙ c .before .before .why .given .1) (c .refused .ensures)) (timeout-counts (c .before .before .before .before .before .args .s))
 
 returns-2 : tie.Need-returns-2
 returns-2 c =

@@ -6,11 +6,11 @@ use Rattle.sender.proofs.answer.advance.Tie as tie
 
 returns : tie.Need-returns
 unfolding advanceOf
-returns c = simp (c .before .before .before .before .moved .ensures) (search choose)
+returns c = simp (c .before .before .before .before .before .before .moved .ensures) (search choose)
 
 returns-2 : tie.Need-returns-2
 unfolding advanceOf
-returns-2 c = simp (c .before .before .moved .ensures) (search choose)
+returns-2 c = simp (c .before .before .before .before .moved .ensures) (search choose)
 
 pub advance-spec : {M : Type 1} → statement M
 advance-spec = tie.close (tie.spec (λ c κs. search needs) returns returns-2)

@@ -12,7 +12,7 @@ use Rattle.sender.proofs.answer.connection_lost.Tie as tie
 returns : tie.Need-returns
 returns c =
     let e = c .before .before .before .before in
-    both (c .before .before .before .before .before .before .args .s) [] (rw (entry-is _ (e .before .holds .ensures) (e .admit .ensures) (c .before .before .r .given .1)) (c .refused .ensures)) (cut-counts (c .before .before .before .before .before .before .args .s))
+    both (c .before .before .before .before .before .before .args .s) [] (rw (entry-is _ (e .before .holds .ensures) (e .admit .ensures) (c .before .before .why .given .1)) (c .refused .ensures)) (cut-counts (c .before .before .before .before .before .before .args .s))
 
 returns-2 : tie.Need-returns-2
 returns-2 c =

@@ -2,16 +2,16 @@ use borrow.Author.Needs.{needs}
 use mathlib.Core.List.{[]}
 use mathlib.Core.Path.{sym, ap, _∙_}
 use Rattle.sender.specs.Answer.{settleOf}
-use Rattle.sender.proofs.Open.{answers}
+use Rattle.sender.proofs.Views.{answers}
 use Rattle.sender.proofs.Counting.{both, nak-counts}
 use Rattle.sender.proofs.answer.nak_received.Statement.{statement}
 use Rattle.sender.proofs.answer.nak_received.Tie as tie
 
 lowered-requires : tie.Need-lowered-requires
-lowered-requires c κs = answers _ (sym (c .before .before .answerable .ensures) ∙ c .enum-told .given .1) .some
+lowered-requires c κs = answers _ (sym (c .enum-told .given .1) ∙ c .before .before .answerable .ensures) .some
 
 returns : tie.Need-returns
-returns c = both (c .before .before .before .before .before .args .s) [] (rw (sym (c .before .before .before .before .answerable .ensures) ∙ c .before .before .r .given .1) (c .refused .ensures)) (nak-counts (c .before .before .before .before .before .args .s))
+returns c = both (c .before .before .before .before .before .args .s) [] (rw (sym (c .before .before .before .before .answerable .ensures) ∙ c .before .before .why .given .1) (c .refused .ensures)) (nak-counts (c .before .before .before .before .before .args .s))
 
 returns-2 : tie.Need-returns-2
 returns-2 c =

@@ -1,11 +1,12 @@
+use borrow.Author.Needs.{needs}
 use mathlib.Core.Path.{refl}
-use Rattle.sender.specs.Transmit.{headerOf}
+use Rattle.sender.specs.Transmit.{dataHeader}
 use Rattle.sender.proofs.transmit.header.Statement.{statement}
 use Rattle.sender.proofs.transmit.header.Tie as tie
 
 returns : tie.Need-returns
-unfolding headerOf
-returns c = refl
+unfolding dataHeader
+returns c = simp (c .tptt .ensures)
 
 pub header-spec : {M : Type 1} → statement M
-header-spec = tie.close (tie.spec returns)
+header-spec = tie.close (tie.spec (λ c κs. search needs) returns)

@@ -16,7 +16,7 @@ returns : tie.Need-returns
 returns c =
     let e = c .before .before .before .before in
     let a = c .before .before .before .before .before .before .before .before .args in
-    told (a .s) (now (a .buffer)) (now (a .out)) _ _ _ (next-closed (a .s) _ _ _ (entry-is _ (e .before .lent .ensures) (e .admit .ensures) (c .before .before .r .given .1))) (c .refused .ensures) refl
+    told (a .s) (now (a .buffer)) (now (a .out)) _ _ _ (next-closed (a .s) _ _ _ (entry-is _ (e .before .lent .ensures) (e .admit .ensures) (c .before .before .why .given .1))) (c .refused .ensures) refl
 
 returns-2 : tie.Need-returns-2
 returns-2 c =

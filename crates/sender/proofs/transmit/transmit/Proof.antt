@@ -3,14 +3,16 @@ use native.Mathlib.Omega.{arith}
 use Prim.Native.Nat.{ℕ, _+_, _-_}
 use mathlib.Core.Bool.{true}
 use mathlib.Core.List.{List}
-use mathlib.Core.Path.{_≡_, ap}
+use mathlib.Core.Path.{_≡_, sym, ap, _∙_}
 use denote.Ref.{now}
 use lib.ListN.{length, take, drop}
-use Rattle.frame.specs.Write.{writable}
-use Rattle.sender.specs.Transmit.{lentOf, lesser, headerOf, partOf}
+use Rattle.frame.specs.Write.{writable, written}
+use Rattle.frame.specs.declared.types.Written.{Written}
+use Rattle.frame.proofs.Hands.{answered, handed}
+use Rattle.sender.specs.Transmit.{lentOf, lesser, dataHeader, partOf, frameOf, sentOf}
 use Rattle.sender.specs.declared.types.Sender.{Sender}
 use Rattle.sender.proofs.Held.{held, lent-holds}
-use Rattle.sender.proofs.Due.{part-length, can-write, answer-is, handed, refuses}
+use Rattle.sender.proofs.Due.{part-length, can-write}
 use Rattle.sender.proofs.transmit.transmit.Statement.{statement}
 use Rattle.sender.proofs.transmit.transmit.Tie as tie
 
@@ -30,27 +32,29 @@ sent-requires c κs = (lent-holds _ _ (c .before .before .before .before .before
 part-is : (s : Sender) (d : List ℕ) (n : ℕ) → n ≡ lesser s → take ((s .next + n) - s .next) (drop (s .next) d) ≡ partOf s d
 part-is s d n e = let k : (s .next + n) - s .next ≡ lesser s = omega arith in ap (λ (k : ℕ). take k (drop (s .next) d)) k
 
-can : (s : Sender) (d : List ℕ) → lentOf s (length d) ≡ true → writable (headerOf s) (length (partOf s d)) ≡ true
+can : (s : Sender) (d : List ℕ) → lentOf s (length d) ≡ true → writable (dataHeader s) (length (partOf s d)) ≡ true
 can s d e =
     let l = lent-holds s (length d) e in
     let h = held s (l .0) in
     can-write s (length (partOf s d)) h (omega (arith, part-length s d h (l .1), h .limits .size-most))
 
 returns : tie.Need-returns
+unfolding frameOf
 returns c =
     let a = c .before .before .before .before .before .before .before .before .before .before .before .before .before .before .args in
     let s = a .s in
     let d = now (a .buffer) in
-    let p = answer-is s d (now (a .out)) _ _ (c .before .before .before .before .before .before .before .before .before .header .ensures) (part-is s d _ (c .before .before .before .before .before .before .before .before .before .before .before .data-length .ensures)) _ _ (c .before .before .before .before .before .before .write .ensures) in
-    handed s d (now (a .out)) (can s d (c .before .before .before .before .before .before .before .before .before .before .before .before .before .before .pre .0)) _ _ (p .0) (p .1) _ _ (c .sent .ensures) (c .before .before .written .given .1)
+    handed s (sentOf s) (dataHeader s) (partOf s d) (now (a .out)) (can s d (c .before .before .before .before .before .before .before .before .before .before .before .before .before .before .pre .0))
+    (rw (c .sent .ensures) (ap (λ (w : Written). answered s (sentOf s) (written w)) (sym (c .before .before .written .given .1)))) (c .before .before .before .before .before .before .before .before .before .header .ensures) (part-is s d _ (c .before .before .before .before .before .before .before .before .before .before .before .data-length .ensures)) (c .before .before .before .before .before .before .write .ensures)
 
 returns-2 : tie.Need-returns-2
+unfolding frameOf
 returns-2 c =
     let a = c .before .before .before .before .before .before .before .before .before .before .before .before .before .before .args in
     let s = a .s in
     let d = now (a .buffer) in
-    let p = answer-is s d (now (a .out)) _ _ (c .before .before .before .before .before .before .before .before .before .header .ensures) (part-is s d _ (c .before .before .before .before .before .before .before .before .before .before .before .data-length .ensures)) _ _ (c .before .before .before .before .before .before .write .ensures) in
-    refuses s d (now (a .out)) (can s d (c .before .before .before .before .before .before .before .before .before .before .before .before .before .before .pre .0)) _ _ (p .0) (p .1) _ _ (c .refused .ensures) (c .before .before .written2 .given .1)
+    handed s (sentOf s) (dataHeader s) (partOf s d) (now (a .out)) (can s d (c .before .before .before .before .before .before .before .before .before .before .before .before .before .before .pre .0))
+    (c .refused .ensures ∙ ap (λ (w : Written). answered s (sentOf s) (written w)) (sym (c .before .before .written2 .given .1))) (c .before .before .before .before .before .before .before .before .before .header .ensures) (part-is s d _ (c .before .before .before .before .before .before .before .before .before .before .before .data-length .ensures)) (c .before .before .before .before .before .before .write .ensures)
 
 pub transmit-spec : {M : Type 1} → statement M
 transmit-spec = tie.close (tie.spec data-length-requires (λ c. search needs) (λ c. search needs) (λ c. search needs) (λ c κs. search needs) (λ c. search needs) (λ c. search needs) part-write-end (λ c κs. search needs) (λ c. search needs) sent-requires (λ c. search needs) (λ c κs. search needs) (λ c. search needs) returns (λ c. search needs) returns-2)

@@ -1,16 +1,17 @@
 use borrow.Author.Needs.{needs}
-use Rattle.status.proofs.Choose.{choose}
-use Rattle.target.specs.Record.{setUpOf}
+use mathlib.Core.Path.{refl}
+use Rattle.status.specs.Outcome.{granted}
+use Rattle.status.proofs.Choose.{in-true, in-false}
 use Rattle.target.proofs.record.set_up_write.Statement.{statement}
 use Rattle.target.proofs.record.set_up_write.Tie as tie
 
 returns : tie.Need-returns
-unfolding setUpOf
-returns c = rw (← c .before .before .limits-hold .ensures) (search choose)
+unfolding granted
+returns c = in-true _ _ _ _ (rw (c .before .before .before .limits-hold .ensures) at (c .before .if1 .taken)) (rw (c .begin .ensures))
 
 returns-2 : tie.Need-returns-2
-unfolding setUpOf
-returns-2 c = rw (← c .before .before .limits-hold .ensures) (search choose)
+unfolding granted
+returns-2 c = in-false _ _ _ _ (rw (c .before .before .limits-hold .ensures) at (c .if1 .left)) refl
 
 pub set-up-write-spec : {M : Type 1} → statement M
-set-up-write-spec = tie.close (tie.spec (λ c κs. search needs) returns returns-2)
+set-up-write-spec = tie.close (tie.spec (λ c κs. search needs) (λ c κs. search needs) returns returns-2)

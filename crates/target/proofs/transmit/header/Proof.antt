@@ -1,10 +1,10 @@
 use mathlib.Core.Path.{refl}
-use Rattle.target.specs.Transmit.{headerOf}
+use Rattle.target.specs.Transmit.{xferRdyHeader}
 use Rattle.target.proofs.transmit.header.Statement.{statement}
 use Rattle.target.proofs.transmit.header.Tie as tie
 
 returns : tie.Need-returns
-unfolding headerOf
+unfolding xferRdyHeader
 returns c = refl
 
 pub header-spec : {M : Type 1} → statement M

@@ -6,10 +6,10 @@ use Rattle.target.proofs.transmit.issue.Statement.{statement}
 use Rattle.target.proofs.transmit.issue.Tie as tie
 
 new-tag-requires : tie.Need-new-tag-requires
-new-tag-requires c κs = held _ (c .pre) .since
+new-tag-requires c κs = held _ (c .pre) .since-most
 
 add-y : tie.Need-add-y
-add-y c = omega (arith, held _ (c .before .before .before .pre) .since)
+add-y c = omega (arith, held _ (c .before .before .before .pre) .since-most)
 
 returns : tie.Need-returns
 unfolding issuedOf

@@ -1,10 +1,10 @@
 use borrow.Author.Needs.{needs}
-use Rattle.target.specs.Transmit.{iuOf}
+use Rattle.target.specs.Transmit.{xferRdyIu}
 use Rattle.target.proofs.transmit.iu.Statement.{statement}
 use Rattle.target.proofs.transmit.iu.Tie as tie
 
 returns : tie.Need-returns
-unfolding iuOf
+unfolding xferRdyIu
 returns c = c .write-xfer-rdy .ensures
 
 pub iu-spec : {M : Type 1} → statement M

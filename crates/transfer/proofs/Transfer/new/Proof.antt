@@ -1,15 +1,15 @@
 use borrow.Author.Needs.{needs}
 use Rattle.status.proofs.Choose.{choose}
-use Rattle.transfer.specs.Limits.{madeOf}
+use Rattle.status.specs.Outcome.{granted}
 use Rattle.transfer.proofs.Transfer.new.Statement.{statement}
 use Rattle.transfer.proofs.Transfer.new.Tie as tie
 
 returns : tie.Need-returns
-unfolding madeOf
+unfolding granted
 returns c = search choose
 
 returns-2 : tie.Need-returns-2
-unfolding madeOf
+unfolding granted
 returns-2 c = search choose
 
 pub new-spec : {M : Type 1} → statement M

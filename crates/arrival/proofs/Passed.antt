@@ -1,0 +1,77 @@
+-- A frame that has passed 5 to 8: what is known of it, and that one written for this port passes as it was written.
+use Prim.Native.Nat.{ℕ, _+_, _-_, _≤_}
+use mathlib.Core.List.{List}
+use mathlib.Core.Bool.{Bool, true, false, not, _||_}
+use mathlib.Core.Path.{_≡_, refl, sym, ap, _∙_}
+use native.Mathlib.Omega.{arith}
+use lib.Dec.{eqb}
+use lib.ListN.{length, take, drop, length-take, length-drop}
+use borrow.Author.Tests.{eq-eqb}
+use Rattle.status.specs.Pick.{pick}
+use Rattle.status.specs.Outcome.{Outcome}
+use Rattle.status.proofs.Opened.{differ}
+use Rattle.transfer.specs.declared.Transfer.{Transfer}
+use Rattle.frame.specs.Format.{encode}
+use Rattle.frame.specs.Read.{decode, headerIn, iuLength, iuOf, parsed}
+use Rattle.frame.specs.Write.{writable}
+use Rattle.frame.specs.RoundTrip.{InRange}
+use Rattle.frame.specs.declared.types.Header.{Header}
+use Rattle.frame.specs.declared.types.Parsed.{Parsed}
+use Rattle.frame.proofs.RoundTrip.{Accepted, accepted, comes-back}
+use Rattle.frame.proofs.Formed.{formed}
+use Rattle.arrival.specs.Accept.{kindOf, isTaken, screenOf, screened, acceptOf}
+use Rattle.arrival.specs.declared.Role.{Role}
+use Rattle.arrival.specs.declared.Kind.{Kind}
+use Rattle.arrival.specs.declared.Arrived.{Arrived}
+
+-- the frame that the bytes f are, taken for what the role takes its type for
+abbrev pub arrivedIn : Role → List ℕ → Arrived
+arrivedIn role f = record { kind = kindOf role (headerIn f .kind); header = headerIn f; start = 24; len = iuLength f }
+
+pub record Passed (role : Role) (f : List ℕ) (a : Arrived) : Type 0 where
+  pub is : arrivedIn role f ≡ a
+  pub taken : isTaken (kindOf role (headerIn f .kind)) ≡ true
+  pub inside : 24 + iuLength f ≤ length f
+
+module _ (t : Transfer) where
+  screen-passed : (k : Kind) (p : Parsed) (a : Arrived) → screenOf t k p ≡ Outcome.value a → (record { kind = k; header = p .header; start = p .start; len = p .len } ≡ a) × (isTaken k ≡ true)
+  unfolding screenOf pick
+  screen-passed k p a e = go (isTaken k) (not (eqb (p .header .dest) (t .local)) || not (eqb (p .header .source) (t .remote))) (not (eqb (p .header .tag) (t .tag))) e
+    where
+      go : (x y z : Bool) → pick (not x) (Outcome.number 6) (pick y (Outcome.number 7) (pick z (Outcome.number 8) (Outcome.value (record { kind = k; header = p .header; start = p .start; len = p .len })))) ≡ Outcome.value a → (record { kind = k; header = p .header; start = p .start; len = p .len } ≡ a) × (x ≡ true)
+      go true false false e = (cc, refl)
+      go true false true e = differ (cc)
+      go true true z e = differ (cc)
+      go false y z e = differ (cc)
+
+  pub passed : (role : Role) (f : List ℕ) (a : Arrived) → acceptOf role t f ≡ Outcome.value a → Passed role f a
+  unfolding acceptOf
+  passed role f a e = go (decode f) refl e
+    where
+      go : (x : Outcome Parsed) → decode f ≡ x → screened x role t ≡ Outcome.value a → Passed role f a
+      go (Outcome.number n) d e = differ (cc)
+      go (Outcome.value p) d e =
+          let q = accepted f p d in
+          let b = formed f (q .form) in
+          let s = screen-passed (kindOf role (headerIn f .kind)) (parsed f) a (ap (λ (v : Parsed). screenOf t (kindOf role (v .header .kind)) v) (q .is) ∙ e) in
+          record { is = s .0; taken = s .1; inside = omega (arith, b .least, b .fill) }
+
+  -- a frame that was written for this port
+  module _ (role : Role) (h : Header) (iu : List ℕ) (k : Kind) (e : kindOf role (h .kind) ≡ k) (taken : isTaken k ≡ true) (d : h .dest ≡ t .local) (s : h .source ≡ t .remote) (g : h .tag ≡ t .tag) (r : InRange h) (w : writable h (length iu) ≡ true) where
+    pub written-passes : acceptOf role t (encode h iu) ≡ Outcome.value (record { kind = k; header = h; start = 24; len = length iu })
+    unfolding acceptOf screenOf pick
+    written-passes = rw (comes-back h iu r w .0, e, taken, eq-eqb _ _ d, eq-eqb _ _ s, eq-eqb _ _ g)
+
+-- what was written stands in the bytes
+pub written-stands : (h : Header) (iu : List ℕ) → InRange h → writable h (length iu) ≡ true → (headerIn (encode h iu) ≡ h) × (iuLength (encode h iu) ≡ length iu) × (iuOf (encode h iu) ≡ iu)
+written-stands h iu r w =
+    let b = comes-back h iu r w in
+    let a = accepted (encode h iu) _ (b .0) .is in
+    (ap (λ (p : Parsed). p .header) a, ap (λ (p : Parsed). p .len) a, b .1)
+
+-- the part of a frame that the code cuts out
+pub part : (start len : ℕ) (f : List ℕ) → take ((start + len) - start) (drop start f) ≡ take len (drop start f)
+part start len f = let e : (start + len) - start ≡ len = omega arith in rw e
+
+pub part-length : (start len : ℕ) (f : List ℕ) → start + len ≤ length f → length (take ((start + len) - start) (drop start f)) ≡ len
+part-length start len f h = rw (part start len f, length-take, length-drop) (omega arith)

@@ -1,0 +1,39 @@
+-- A port that has a frame due and asks the writer for it: the writer takes header and IU, and refuses only with 3.
+use Prim.Native.Nat.{ℕ}
+use mathlib.Core.List.{List}
+use mathlib.Core.Bool.{Bool, true, false}
+use mathlib.Core.Path.{_≡_, refl, sym, ap, _∙_}
+use lib.Dec.{leb}
+use lib.ListN.{length}
+use Rattle.status.specs.Pick.{pick}
+use Rattle.status.specs.Answer.{Said, Left, _saying_}
+use Rattle.status.specs.Outcome.{Outcome}
+use Rattle.frame.specs.Format.{encode}
+use Rattle.frame.specs.Write.{writable, writeAnswer, put, handing, hands}
+use Rattle.frame.specs.declared.types.Header.{Header}
+
+-- what a port x makes of the writer's answer, y being x with the frame handed out
+abbrev pub answered : {X : Type 0} → X → X → Outcome ℕ → Left X
+answered x y (Outcome.value n) = y saying Said.frame n
+answered x y (Outcome.number n) = x saying Said.refused n
+
+module _ {X : Type 0} (x y : X) (h : Header) (iu out : List ℕ) (w : writable h (length iu) ≡ true) where
+  put-handing : (a : Outcome ℕ) → put a (encode h iu) out ≡ handing (answered x y a .says) (encode h iu) out
+  put-handing (Outcome.value n) = refl
+  put-handing (Outcome.number n) = refl
+
+  hands-answered : hands x y (encode h iu) out ≡ answered x y (writeAnswer h iu out)
+  unfolding hands pick
+  hands-answered = rw w (go (leb (length (encode h iu)) (length out)))
+    where
+      go : (t : Bool) → pick t (y saying Said.frame (length (encode h iu))) (x saying Said.refused 3) ≡ answered x y (pick t (Outcome.value (length (encode h iu))) (Outcome.number 3))
+      go true = refl
+      go false = refl
+
+  -- the code's answer z and what it left, for a header and an IU that equal the frame's
+  pub handed : {z : Left X} {g : Header} {j : List ℕ} {a : Outcome ℕ} {left : List ℕ} → z ≡ answered x y a → g ≡ h → j ≡ iu → (a ≡ writeAnswer g j out) × (left ≡ put (writeAnswer g j out) (encode g j) out) → (z ≡ hands x y (encode h iu) out) × (left ≡ handing (hands x y (encode h iu) out .says) (encode h iu) out)
+  handed ez eg ej p = let v = rw (eg, ej) at p in rw hands-answered (ez ∙ ap (answered x y) (v .0), v .1 ∙ put-handing (writeAnswer h iu out))
+
+-- a result z that is the definition's d, both being y, and that left the output buffer so
+pub told : {X : Type 0} {d y z : Left X} {left : List ℕ} (f out : List ℕ) → d ≡ y → z ≡ y → left ≡ handing (y .says) f out → (z ≡ d) × (left ≡ handing (d .says) f out)
+told {X} f out e p q = (p ∙ sym e, q ∙ ap (λ (w : Left X). handing (w .says) f out) (sym e))

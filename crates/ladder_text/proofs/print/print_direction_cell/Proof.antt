@@ -1,0 +1,30 @@
+use borrow.Author.Needs.{needs}
+use mathlib.Core.List.{[], _∷_}
+use mathlib.Core.Path.{refl}
+use denote.Ref.{now}
+use Rattle.ladder_text.specs.Text.{TAB}
+use Rattle.ladder_text.specs.Words.{directionWord}
+use Rattle.ladder_text.proofs.Puts.{room-first, room-next, puts-both}
+use Rattle.ladder_text.proofs.print.print_direction_cell.Statement.{statement}
+use Rattle.ladder_text.proofs.print.print_direction_cell.Tie as tie
+
+print-direction-requires : tie.Need-print-direction-requires
+print-direction-requires c κs =
+    let s = c .before .before in
+    let a = s .args in
+    room-first (now (a .out)) (a .at) (directionWord (a .d)) (TAB ∷ []) refl (s .pre)
+
+print-byte-requires : tie.Need-print-byte-requires
+print-byte-requires c κs =
+    let s = c .before .before .before .before .before .before in
+    let a = s .args in
+    room-next (now (a .out)) (a .at) (directionWord (a .d)) (TAB ∷ []) refl (s .pre) (c .before .before .before .print-direction .ensures)
+
+returns : tie.Need-returns
+returns c =
+    let s = c .before .before .before .before .before .before .before .before .before in
+    let a = s .args in
+    puts-both (now (a .out)) (a .at) (directionWord (a .d)) (TAB ∷ []) refl (s .pre) (c .before .before .before .before .before .before .print-direction .ensures) (c .before .before .print-byte .ensures)
+
+pub print-direction-cell-spec : {M : Type 1} → statement M
+print-direction-cell-spec = tie.close (tie.spec print-direction-requires print-byte-requires (λ c. search needs) returns)

@@ -1,0 +1,24 @@
+use borrow.Author.Needs.{needs}
+use Rattle.ladder_text.proofs.Cut.{part-none, part-found}
+use Rattle.ladder_text.proofs.text.part.Statement.{statement}
+use Rattle.ladder_text.proofs.text.part.Tie as tie
+
+returns : tie.Need-returns
+returns c = part-none _ _ _ (c .before .if1 .taken)
+
+returns-2 : tie.Need-returns-2
+returns-2 c = part-found _ _ _ _ (c .before .find .ensures .0)
+
+pub part-spec : {M : Type 1} → statement M
+part-spec =
+    tie.close
+    (tie.spec
+    (λ c. search needs)
+    (λ c. search needs)
+    (λ c. search needs)
+    returns
+    (λ c κs. search needs)
+    (λ c. search needs)
+    (λ c. search needs)
+    (λ c. search needs)
+    returns-2)

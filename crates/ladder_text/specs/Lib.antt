@@ -1,0 +1,9 @@
+pub mod Pick
+pub mod Text
+pub mod Decimal
+pub mod Words
+pub mod Rows
+pub mod Place
+pub mod RunFile
+pub mod Laws
+pub mod Answers

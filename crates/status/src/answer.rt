@@ -1,0 +1,128 @@
+// What a call answers, at every port.
+ghost use mathlib.Core.Path.{_≡_};
+ghost use Rattle.status.specs.Answer.{says, number, stores, refuses};
+use crate::words::Failure;
+use crate::words::Refusal;
+
+pub enum Answer {
+    // 1 to 8: nothing changed
+    Refused(Refusal),
+    // 20 to 32: the port has ended; with the DATA frames that it handed out, 0 at a port that hands out none
+    Failed(Failure, u64),
+    // no frame is due
+    Wait,
+    // a frame of that many bytes stands in the output buffer
+    Frame(usize),
+    // the event was taken; nothing to tell
+    Taken,
+    // a retry begins
+    Retry,
+    // a cut with nothing unanswered
+    Unchanged,
+    // the read, the write burst or the RESPONSE is delivered, with the DATA frames handed out, 0 of a RESPONSE
+    Delivered(u64),
+    // the XFER_RDY had its ACK
+    Acknowledged,
+    // DATA: discarded; stored; stored, and the burst is filled with it
+    Discarded,
+    Stored,
+    Received,
+    // an XFER_RDY for the next burst was taken; there was none before, or its delivery was reported
+    NextBurst,
+    // the same; with it the burst before counts as delivered, after so many frames
+    NextBurstDelivers(u64),
+    // an XFER_RDY that repeats the burst taken last was taken
+    Repeated,
+    // The command has ended; the RESPONSE's IU is len bytes of the frame from start. With the frames of the burst in service.
+    Response {
+        start: usize,
+        len: usize,
+        frames: u64,
+    },
+}
+
+impl Answer {
+    // The paper's number, 0 where it has none.
+    pub fn number(self) -> u8
+        ensures { λ r. ⌜ r ≡ number (says self) ⌝ }
+    {
+        match self {
+            Answer::Refused(why) => why.number(),
+            Answer::Failed(why, _) => why.number(),
+            Answer::Wait => 0,
+            Answer::Frame(_) => 0,
+            Answer::Taken => 0,
+            Answer::Retry => 0,
+            Answer::Unchanged => 0,
+            Answer::Delivered(_) => 0,
+            Answer::Acknowledged => 0,
+            Answer::Discarded => 0,
+            Answer::Stored => 0,
+            Answer::Received => 0,
+            Answer::NextBurst => 0,
+            Answer::NextBurstDelivers(_) => 0,
+            Answer::Repeated => 0,
+            Answer::Response {
+                start: _,
+                len: _,
+                frames: _,
+            } => 0,
+        }
+    }
+
+    // DATA was stored.
+    pub fn stores(self) -> bool
+        ensures { λ r. ⌜ r ≡ stores (says self) ⌝ }
+    {
+        match self {
+            Answer::Refused(_) => false,
+            Answer::Failed(_, _) => false,
+            Answer::Wait => false,
+            Answer::Frame(_) => false,
+            Answer::Taken => false,
+            Answer::Retry => false,
+            Answer::Unchanged => false,
+            Answer::Delivered(_) => false,
+            Answer::Acknowledged => false,
+            Answer::Discarded => false,
+            Answer::Stored => true,
+            Answer::Received => true,
+            Answer::NextBurst => false,
+            Answer::NextBurstDelivers(_) => false,
+            Answer::Repeated => false,
+            Answer::Response {
+                start: _,
+                len: _,
+                frames: _,
+            } => false,
+        }
+    }
+
+    // The call was refused.
+    pub fn refuses(self) -> bool
+        ensures { λ r. ⌜ r ≡ refuses (says self) ⌝ }
+    {
+        match self {
+            Answer::Refused(_) => true,
+            Answer::Failed(_, _) => false,
+            Answer::Wait => false,
+            Answer::Frame(_) => false,
+            Answer::Taken => false,
+            Answer::Retry => false,
+            Answer::Unchanged => false,
+            Answer::Delivered(_) => false,
+            Answer::Acknowledged => false,
+            Answer::Discarded => false,
+            Answer::Stored => false,
+            Answer::Received => false,
+            Answer::NextBurst => false,
+            Answer::NextBurstDelivers(_) => false,
+            Answer::Repeated => false,
+            Answer::Response {
+                start: _,
+                len: _,
+                frames: _,
+            } => false,
+        }
+    }
+}
