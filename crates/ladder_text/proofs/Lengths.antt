@@ -41,7 +41,7 @@ direction-most : (d : Direction) → length (directionWord d) ≤ 5
 direction-most Read = omega arith
 direction-most Write = omega arith
 
-fate-most : (f : Fate) → length (fateWord f) ≤ 5
+pub fate-most : (f : Fate) → length (fateWord f) ≤ 5
 fate-most Ok = omega arith
 fate-most Noack = omega arith
 fate-most Bad = omega arith
@@ -61,7 +61,7 @@ receipt-most receipt.Discarded p = omega arith
 receipt-most receipt.Nothing p = omega arith
 receipt-most (receipt.Number n) p = ten n p
 
-outcome-most : (o : Outcome) → length (outcomeWord o) ≤ 9
+pub outcome-most : (o : Outcome) → length (outcomeWord o) ≤ 9
 outcome-most Delivered = omega arith
 outcome-most Failed = omega arith
 

@@ -148,9 +148,9 @@ FilesReadBack =
 abbrev pub FilesPrintAgain : Type 0
 FilesPrintAgain = (b : List ℕ) (r : Run) (at : ℕ) → fileOf b ≡ file.Run r at → (withinLimits r ≡ true) × (fileText r (fatesAt b at) ≡ finished b)
 
--- a run file has three bytes or more for each fate
+-- a run file has line one, and three bytes or more for each fate
 abbrev pub FewFates : Type 0
-FewFates = (b : List ℕ) (r : Run) (at : ℕ) → fileOf b ≡ file.Run r at → 3 * length (fatesAt b at) ≤ length b
+FewFates = (b : List ℕ) (r : Run) (at : ℕ) → fileOf b ≡ file.Run r at → length (runText r) + 3 * length (fatesAt b at) ≤ length b
 
 -- the fates of a file, one after the other; past the list, `ok`
 abbrev pub InTurn : List ℕ → ℕ → NextFate → Type 0

@@ -101,7 +101,7 @@ module _ {P : Ports} (S : Setting) (M : Simulates P (S .tptt)) (w : World P) (l 
             go (Standing.dirty (inr (inl h)) p) = absurd (false≢true (sym quiet ∙ h))
             go (Standing.dirty (inr (inr h)) p) = absurd (omega (arith, none-lost))
 
-        all-there : place S j ≤ r .filled
+        pub all-there : place S j ≤ r .filled
         all-there = go in-step
           where
             go : InStep S c k (r .waiting) (r .expected) (r .filled) → place S j ≤ r .filled
@@ -189,26 +189,27 @@ module _ {P : Ports} (S : Setting) (M : Simulates P (S .tptt)) (w : World P) (l 
   unreported : {rest : List Answer} (x : Left (P .Sending)) {t : Said} → x .says ≡ t → Inv S M (lowered rest (x .left) (noted t (w .report))) → Inv S M (lowered rest (x .left) (noted (x .says) (w .report)))
   unreported {rest} x e h = subst (λ (v : Said). Inv S M (lowered rest (x .left) (noted v (w .report)))) (sym e) h
 
+  -- how the attempt stands once the first answer is off the way
+  pub ack-off : {rest : List Answer} → Standing S (Answer.ack ∷ rest) (s .nak) (w .tally .lost) c k (r .waiting) (r .expected) (r .filled) R (w .tally .faults) → Standing S rest (s .nak) (w .tally .lost) c k (r .waiting) (r .expected) (r .filled) R (w .tally .faults)
+  ack-off (Standing.clean a b d i) = Standing.clean a b d i
+  ack-off (Standing.dirty (inl h) p) = Standing.dirty (inl h) p
+  ack-off (Standing.dirty (inr h) p) = Standing.dirty (inr h) p
+
+  pub nak-off : {rest : List Answer} → Standing S (Answer.nak ∷ rest) (s .nak) (w .tally .lost) c k (r .waiting) (r .expected) (r .filled) R (w .tally .faults) → Standing S rest true (w .tally .lost) c k (r .waiting) (r .expected) (r .filled) R (w .tally .faults)
+  nak-off (Standing.clean a b d i) = absurd a
+  nak-off (Standing.dirty h p) = Standing.dirty (inr (inl refl)) p
+
   -- the first answer reaches the port
   reaching : (a : List Answer) → length (w .frames) + length a + w .tally .lost ≡ s .unanswered → Standing S a (s .nak) (w .tally .lost) c k (r .waiting) (r .expected) (r .filled) R (w .tally .faults) → Inv S M (answers w a)
   reaching [] n g = inl l
   reaching (Answer.ack ∷ rest) n g =
       let a = M .signals-as Signal.ack (w .sending) s (l .sends) (ported .s-holds) in
       unreported (P .signal Signal.ack (w .sending)) (a .1)
-      (settle-keeps rest (s .nak) (omega arith) (omega arith) (go g) _ (acked s (ported .s-holds) (ported .s-open) (λ e. omega arith)) (a .0))
-    where
-      go : Standing S (Answer.ack ∷ rest) (s .nak) (w .tally .lost) c k (r .waiting) (r .expected) (r .filled) R (w .tally .faults) → Standing S rest (s .nak) (w .tally .lost) c k (r .waiting) (r .expected) (r .filled) R (w .tally .faults)
-      go (Standing.clean a b d i) = Standing.clean a b d i
-      go (Standing.dirty (inl h) p) = Standing.dirty (inl h) p
-      go (Standing.dirty (inr h) p) = Standing.dirty (inr h) p
+      (settle-keeps rest (s .nak) (omega arith) (omega arith) (ack-off g) _ (acked s (ported .s-holds) (ported .s-open) (λ e. omega arith)) (a .0))
   reaching (Answer.nak ∷ rest) n g =
       let a = M .signals-as Signal.nak (w .sending) s (l .sends) (ported .s-holds) in
       unreported (P .signal Signal.nak (w .sending)) (a .1)
-      (settle-keeps rest true (omega arith) (omega arith) (go g) _ (naked s (ported .s-holds) (ported .s-open) (λ e. omega arith)) (a .0))
-    where
-      go : Standing S (Answer.nak ∷ rest) (s .nak) (w .tally .lost) c k (r .waiting) (r .expected) (r .filled) R (w .tally .faults) → Standing S rest true (w .tally .lost) c k (r .waiting) (r .expected) (r .filled) R (w .tally .faults)
-      go (Standing.clean a b d i) = absurd a
-      go (Standing.dirty h p) = Standing.dirty (inr (inl refl)) p
+      (settle-keeps rest true (omega arith) (omega arith) (nak-off g) _ (naked s (ported .s-holds) (ported .s-open) (λ e. omega arith)) (a .0))
 
   pub answering : Inv S M (step w Event.answered)
   answering = reaching (w .answers) (linked .conserved) standing

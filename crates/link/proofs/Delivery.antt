@@ -51,7 +51,7 @@ module _ {P : Ports} (S : Setting) (M : Simulates P (S .tptt)) where
   step-keeps w (Event.other k) (inl l) (inr a) = absurd (a .0 (l .silent))
   step-keeps w (Event.other k) (inr d) (inr a) = late-keeps S M w d k (a .1)
 
-  run-keeps : (w : World P) (es : List (Event P)) → Inv S M w → Allowed w es → Inv S M (run w es)
+  pub run-keeps : (w : World P) (es : List (Event P)) → Inv S M w → Allowed w es → Inv S M (run w es)
   run-keeps w [] i a = i
   run-keeps w (e ∷ es) i a = run-keeps (step w e) es (step-keeps w e i (a .0)) (a .1)
 

@@ -36,6 +36,7 @@ use Rattle.target.proofs.Held as target
 use Rattle.target.proofs.Issue.{issued-order, burst-transfer, can-write, iu-length}
 use Rattle.target.proofs.Views.{HandedOut, handed-out, tag-most, Acked, acknowledged}
 use Rattle.target.proofs.Kept.{acknowledged-holds}
+use Rattle.link.specs.World.{World}
 use Rattle.link.specs.Delivers.{fresh}
 use Rattle.link.specs.Claim.{Alike, Always, xferRdySent}
 use Rattle.link.specs.Writing.{writePorts}
@@ -45,7 +46,8 @@ use Rattle.link.proofs.Flight.{Flight}
 use Rattle.link.proofs.Invariant.{Standing, Live, live}
 use Rattle.link.proofs.Asking.{over-front}
 use Rattle.link.proofs.Delivery.{delivers}
-use Rattle.link.proofs.WriteSimulates.{Ready, WritesAs, TakesAs, write-simulates, write-sends, write-takes}
+use Rattle.link.proofs.Filled.{Fills, fills}
+use Rattle.link.proofs.WriteSimulates.{Ready, WritesAs, TakesAs, write-simulates, write-sends, write-takes, write-filled}
 
 module _ (x : Writer) (y : Target) (out d b : List ℕ) (n : ℕ) (hx : holdsOf x ≡ true) (ox : x .sender .ended ≡ false) (zx : x .sender .unanswered ≡ 0)
     (al : Alike (x .sender .transfer) (y .receiver .transfer)) (on : 1 ≤ x .sender .transfer .limit) (dl : length d ≡ x .sender .transfer .count) (bl : length b ≡ x .sender .transfer .count)
@@ -223,6 +225,13 @@ module _ (x : Writer) (y : Target) (out d b : List ℕ) (n : ℕ) (hx : holdsOf 
       (record { frames-are = refl; most = omega arith; since = omega arith; ever = omega arith; paid = omega arith })
       (Standing.clean tt refl refl (inr (inr (refl, omega arith)))) refl
 
+  -- what holds of both ports then, and of the burst's two offsets, holds of the start
+  start-as : (Q : ℕ → ℕ → World writePorts → Type 0) → Q base end (fresh writePorts writer (acknowledgedOf (issuedOf y)) d b) →
+      Q (nextOf y out .left .receiver .base) (nextOf y out .left .receiver .end) (fresh writePorts (writeArrivalOf x (xferRdySent y out n) .left) (ackOf (nextOf y out .left) .left) d b)
+  start-as Q q =
+      subst (λ (v : Target). Q (v .receiver .base) (v .receiver .end) (fresh writePorts (writeArrivalOf x (xferRdySent y out n) .left) (ackOf (nextOf y out .left) .left) d b)) (sym (handed .target))
+      (subst₂ (λ (a : Writer) (c : Target). Q base end (fresh writePorts a c d b)) (sym started) (sym ready) q)
+
   -- the claim from there
   pub write-delivers :
       Always
@@ -234,7 +243,13 @@ module _ (x : Writer) (y : Target) (out d b : List ℕ) (n : ℕ) (hx : holdsOf 
       })
       (fresh writePorts (writeArrivalOf x (xferRdySent y out n) .left) (ackOf (nextOf y out .left) .left) d b)
   write-delivers =
-      let from : Always (record { base = base; end = end; size = x .sender .transfer .size; limit = x .sender .transfer .limit }) (fresh writePorts writer (acknowledgedOf (issuedOf y)) d b) =
-      delivers setting (write-simulates (issuedOf y .tptt)) _ (refl, refl) (inl begins) in
-      subst (λ (v : Target). Always (record { base = v .receiver .base; end = v .receiver .end; size = x .sender .transfer .size; limit = x .sender .transfer .limit }) (fresh writePorts (writeArrivalOf x (xferRdySent y out n) .left) (ackOf (nextOf y out .left) .left) d b)) (sym (handed .target))
-      (subst₂ (λ (a : Writer) (c : Target). Always (record { base = base; end = end; size = x .sender .transfer .size; limit = x .sender .transfer .limit }) (fresh writePorts a c d b)) (sym started) (sym ready) from)
+      start-as (λ lo hi. Always (record { base = lo; end = hi; size = x .sender .transfer .size; limit = x .sender .transfer .limit }))
+      (delivers setting (write-simulates (issuedOf y .tptt)) _ (refl, refl) (inl begins))
+
+  -- with the report of delivery the target's filled mark is the burst's end
+  pub write-fills :
+      Fills {P = writePorts} (λ v. v .receiver .filled) (nextOf y out .left .receiver .end)
+      (fresh writePorts (writeArrivalOf x (xferRdySent y out n) .left) (ackOf (nextOf y out .left) .left) d b)
+  write-fills =
+      start-as (λ lo hi. Fills {P = writePorts} (λ v. v .receiver .filled) hi)
+      (fills setting (write-simulates (issuedOf y .tptt)) (λ v. v .receiver .filled) (write-filled (issuedOf y .tptt)) _ (inl begins))

@@ -14,6 +14,7 @@ pub mod Closing
 pub mod Resting
 pub mod Late
 pub mod Delivery
+pub mod Filled
 pub mod ReadSimulates
 pub mod WriteSimulates
 pub mod Exchange

@@ -164,3 +164,7 @@ read-sends s v = record { is = refl; read = v }
 pub read-takes : (r : Receiver) → r .transfer .write ≡ false → read-simulates .TakesAs r r
 unfolding read-simulates
 read-takes r v = record { is = refl; read = v }
+
+pub read-filled : (y r : Receiver) → read-simulates .TakesAs y r → y .filled ≡ r .filled
+unfolding read-simulates
+read-filled y r a = ap (λ (v : Receiver). v .filled) (a .is)

@@ -28,8 +28,9 @@ use Rattle.link.specs.Reading.{readPorts}
 use Rattle.link.proofs.Setting.{Setting}
 use Rattle.link.proofs.Flight.{Flight}
 use Rattle.link.proofs.Invariant.{Standing, Live, live}
-use Rattle.link.proofs.ReadSimulates.{read-simulates, read-sends, read-takes}
+use Rattle.link.proofs.ReadSimulates.{read-simulates, read-sends, read-takes, read-filled}
 use Rattle.link.proofs.Delivery.{delivers}
+use Rattle.link.proofs.Filled.{Fills, fills}
 use Rattle.link.proofs.Exchange.{write-delivers}
 
 -- what a set-up that is not refused says
@@ -99,14 +100,25 @@ module _ (t u : Transfer) (d b : List ℕ) (tl : limitsHold t ≡ true) (tr : t 
       (record { frames-are = refl; most = omega arith; since = omega arith; ever = omega arith; paid = omega arith })
       (Standing.clean tt refl refl (inr (inr (refl, omega arith)))) refl
 
-pub delivery : DeliveryClaim
-delivery P b w (Starts.read t u s r d e hs hr a on dl bl) =
+-- what holds of both ports as they begin holds of those that were set up
+set-up-as : (t u : Transfer) (s : Sender) (r : Receiver) (d b : List ℕ) (Q : World readPorts → Type 0) → sender.setUpReadOf t ≡ Outcome.value s → receiver.setUpReadOf u ≡ Outcome.value r →
+    (limitsHold t ≡ true → t .write ≡ false → limitsHold u ≡ true → u .write ≡ false → Q (fresh readPorts (sender.beginning t (sender.whole t)) (receiver.beginning u 0 (u .count)) d b)) → Q (fresh readPorts s r d b)
+set-up-as t u s r d b Q hs hr f =
     let x = set-up (all (sender.setUpTests t)) _ s hs in
     let y = set-up (all (receiver.setUpTests u)) _ r hr in
     let xs = each (sender.setUpTests t) (x .0) in
     let ys = each (receiver.setUpTests u) (y .0) in
-    let tr = read-only (t .write) (xs .1 .0) in
-    let ur = read-only (u .write) (ys .1 .0) in
-    subst₂ (λ (v : Sender) (q : Receiver). Always (record { base = 0; end = t .count; size = t .size; limit = t .limit }) (fresh readPorts v q d e)) (x .1) (y .1)
-    (delivers (setting t u d e (xs .0) tr (ys .0) ur a on dl bl) read-simulates _ (refl, refl) (inl (begins t u d e (xs .0) tr (ys .0) ur a on dl bl)))
+    subst₂ (λ (v : Sender) (q : Receiver). Q (fresh readPorts v q d b)) (x .1) (y .1) (f (xs .0) (read-only (t .write) (xs .1 .0)) (ys .0) (read-only (u .write) (ys .1 .0)))
+
+pub delivery : DeliveryClaim
+delivery P b w (Starts.read t u s r d e hs hr a on dl bl) =
+    set-up-as t u s r d e (Always (record { base = 0; end = t .count; size = t .size; limit = t .limit })) hs hr
+    (λ tl tr ul ur. delivers (setting t u d e tl tr ul ur a on dl bl) read-simulates _ (refl, refl) (inl (begins t u d e tl tr ul ur a on dl bl)))
 delivery P b w (Starts.write x y out d e n hx ox zx a on dl el hands took acks) = write-delivers x y out d e n hx ox zx a on dl el hands took acks
+
+-- with the report of a read's delivery the initiator's filled mark is the byte count
+pub read-fills : (t u : Transfer) (s : Sender) (r : Receiver) (d b : List ℕ) → sender.setUpReadOf t ≡ Outcome.value s → receiver.setUpReadOf u ≡ Outcome.value r → Alike t u → 1 ≤ t .limit →
+    length d ≡ t .count → length b ≡ t .count → Fills {P = readPorts} (λ v. v .filled) (t .count) (fresh readPorts s r d b)
+read-fills t u s r d b hs hr a on dl bl =
+    set-up-as t u s r d b (Fills {P = readPorts} (λ v. v .filled) (t .count)) hs hr
+    (λ tl tr ul ur. fills (setting t u d b tl tr ul ur a on dl bl) read-simulates (λ v. v .filled) read-filled _ (inl (begins t u d b tl tr ul ur a on dl bl)))

@@ -255,3 +255,7 @@ write-sends tptt w s a = a
 pub write-takes : (tptt : ℕ) (y : Target) (r : Receiver) → TakesAs tptt y r → write-simulates tptt .TakesAs y r
 unfolding write-simulates
 write-takes tptt y r a = a
+
+pub write-filled : (tptt : ℕ) (y : Target) (r : Receiver) → write-simulates tptt .TakesAs y r → y .receiver .filled ≡ r .filled
+unfolding write-simulates
+write-filled tptt y r a = ap (λ (v : Receiver). v .filled) (a .receiver)

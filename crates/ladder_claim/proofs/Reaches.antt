@@ -1,0 +1,31 @@
+-- What an allowed list of link events leads to.
+use mathlib.Core.List.{List, [], _∷_, _++_}
+use mathlib.Core.Path.{_≡_, refl, sym, subst, _∙_}
+use Rattle.link.specs.Ports.{Ports}
+use Rattle.link.specs.World.{World, Event, step, run, Allows, Allowed}
+
+module _ {P : Ports} where
+  pub record Reaches (start w : World P) : Type 0 where
+    pub events : List (Event P)
+    pub allowed : Allowed start events
+    pub ends : run start events ≡ w
+
+  pub nothing-yet : (start : World P) → Reaches start start
+  nothing-yet start = record { events = []; allowed = tt; ends = refl }
+
+  run-last : (w : World P) (es : List (Event P)) (e : Event P) → run w (es ++ (e ∷ [])) ≡ step (run w es) e
+  run-last w [] e = refl
+  run-last w (x ∷ es) e = run-last (step w x) es e
+
+  allowed-last : (w : World P) (es : List (Event P)) (e : Event P) → Allowed w es → Allows (run w es) e → Allowed w (es ++ (e ∷ []))
+  allowed-last w [] e a x = (x, tt)
+  allowed-last w (y ∷ es) e a x = (a .0, allowed-last (step w y) es e (a .1) x)
+
+  -- one event more
+  pub reaches-on : {start w : World P} → Reaches start w → (e : Event P) → Allows w e → Reaches start (step w e)
+  reaches-on {start} {w} r e a =
+      record {
+        events = r .events ++ (e ∷ []);
+        allowed = allowed-last start (r .events) e (r .allowed) (subst (λ (v : World P). Allows v e) (sym (r .ends)) a);
+        ends = run-last start (r .events) e ∙ (λ i. step (r .ends i) e);
+      }

@@ -1,0 +1,1 @@
+// What holds of every ladder: definitions and theorems, no code.

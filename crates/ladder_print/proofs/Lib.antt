@@ -1,0 +1,4 @@
+pub mod Behind
+pub mod Filled
+pub mod Climbing
+pub mod Files

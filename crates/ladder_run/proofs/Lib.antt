@@ -1,0 +1,8 @@
+pub mod Ports
+pub mod InTurn
+pub mod Handed
+pub mod Told
+pub mod Readied
+pub mod SmallFrame
+pub mod SmallReceipt
+pub mod Small

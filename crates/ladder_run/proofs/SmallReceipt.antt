@@ -1,0 +1,164 @@
+-- What a receiving port says of an arriving frame has a number of two digits at most: a receiver's word is at most nine bytes long.
+use Prim.Native.Nat.{ℕ, _+_, _≤_, max}
+use mathlib.Core.List.{List}
+use mathlib.Core.Bool.{Bool, not, _||_}
+use native.Mathlib.Omega.{arith}
+use lib.Dec.{ltb, eqb}
+use lib.ListN.{length, getD}
+use Rattle.status.specs.Entry.{entryOf}
+use Rattle.status.specs.Number.{refusalNumber}
+use Rattle.status.specs.Answer.{Word, Said, Left, number, unless}
+use Rattle.status.specs.Outcome.{Outcome}
+use Rattle.status.specs.declared.words.Refusal.{Refusal}
+use Rattle.status.specs.declared.words.Refusal.the-variants.{BadRequest, TransferEnded, FrameSpaceShort, AnswerWithoutFrame, MalformedFrame, UnexpectedFrameType, WrongAddress, UnknownTag}
+use Rattle.status.specs.declared.entry.Entry.{Entry}
+use Rattle.status.specs.declared.entry.Entry.the-variants.{Open, Closed}
+use Rattle.status.proofs.Leaves.{picked}
+use Rattle.transfer.specs.declared.Transfer.{Transfer}
+use Rattle.frame.specs.Format.{isType}
+use Rattle.frame.specs.Read.{decode, parsed, wellFormed}
+use Rattle.frame.specs.XferRdy.{xferRdyOf}
+use Rattle.frame.specs.declared.types.Parsed.{Parsed}
+use Rattle.frame.specs.declared.types.XferRdy.{XferRdy}
+use Rattle.arrival.specs.Accept.{isTaken, screenOf, screened, kindOf, acceptOf}
+use Rattle.arrival.specs.declared.Role.{Role}
+use Rattle.arrival.specs.declared.Role.the-variants.{ReadInitiator, WriteTarget}
+use Rattle.arrival.specs.declared.Kind.{Kind}
+use Rattle.arrival.specs.declared.Arrived.{Arrived}
+use Rattle.receiver.specs.DataFrame as data-frame
+use Rattle.receiver.specs.declared.types.Receiver.{Receiver}
+use Rattle.receiver.proofs.Views as views
+use Rattle.initiator.specs.Read as reading
+use Rattle.target.specs.Record.{READY}
+use Rattle.target.specs.Arrival as writing
+use Rattle.target.specs.declared.types.Target.{Target}
+use Rattle.ladder_text.specs.Words.{receiptWord}
+use Rattle.ladder_text.specs.declared.types.Receipt.{Receipt}
+use Rattle.ladder_text.specs.declared.types.Receipt.the-variants.{Number}
+use Rattle.ladder_text.specs.Laws.{ReceiptFits}
+use Rattle.ladder_text.proofs.Lengths.{digits-most}
+use Rattle.ladder_run.specs.Ends.{arriveOf}
+use Rattle.ladder_run.specs.Row.{receiptOf}
+use Rattle.ladder_run.specs.declared.types.Receiving.{Receiving}
+use Rattle.ladder_run.specs.declared.types.Receiving.the-variants as receiving
+
+-- the numbers of "Trade words" end with 32
+abbrev Numbered : Said → Type 0
+Numbered x = number x ≤ 32
+
+refusal-most : (why : Refusal) → refusalNumber why ≤ 32
+refusal-most BadRequest = omega arith
+refusal-most TransferEnded = omega arith
+refusal-most FrameSpaceShort = omega arith
+refusal-most AnswerWithoutFrame = omega arith
+refusal-most MalformedFrame = omega arith
+refusal-most UnexpectedFrameType = omega arith
+refusal-most WrongAddress = omega arith
+refusal-most UnknownTag = omega arith
+
+entered : {X : Type 0} (e : Entry) (x : X) (y : Left X) → Numbered (y .says) → Numbered (unless e x y .says)
+entered Open x y h = h
+entered (Closed why) x y h = refusal-most why
+
+-- an outcome's number, if it is one
+abbrev Within : {X : Type 0} → Outcome X → Type 0
+Within (Outcome.number n) = n ≤ 32
+Within (Outcome.value x) = Unit {0}
+
+decoded : (f : List ℕ) → Within (decode f)
+unfolding decode
+decoded f = picked Within (wellFormed f) _ _ (picked Within (isType (getD f 0 0)) (Outcome.value (parsed f)) (Outcome.number 6) tt (omega arith)) (omega arith)
+
+screens : (t : Transfer) (k : Kind) (p : Parsed) → Within (screenOf t k p)
+unfolding screenOf
+screens t k p =
+    picked Within (not (isTaken k)) _ _ (omega arith)
+    (picked Within (not (eqb (p .header .dest) (t .local)) || not (eqb (p .header .source) (t .remote))) _ _ (omega arith)
+    (picked Within (not (eqb (p .header .tag) (t .tag))) (Outcome.number 8) (Outcome.value (record { kind = k; header = p .header; start = p .start; len = p .len })) (omega arith) tt))
+
+accepts : (role : Role) (t : Transfer) (f : List ℕ) → Within (acceptOf role t f)
+unfolding acceptOf
+accepts role t f = go (decode f) (decoded f)
+  where
+    go : (x : Outcome Parsed) → Within x → Within (screened x role t)
+    go (Outcome.number n) h = h
+    go (Outcome.value p) h = screens t (kindOf role (p .header .kind)) p
+
+-- DATA
+data-numbered : (r : Receiver) (offset : ℕ) (cdp : Bool) (n m : ℕ) → Numbered (data-frame.arrivalOf r offset cdp n m .says)
+unfolding data-frame.arrivalOf
+data-numbered r offset cdp n m = entered (entryOf (data-frame.lentOf r m) (r .ended)) r _ (go (views.judges r offset cdp n))
+  where
+    go : {x : Left Receiver} → views.Arrived r offset cdp n x → Numbered (x .says)
+    go (views.Arrived.full p) = omega arith
+    go (views.Arrived.misplaced o p) = omega arith
+    go (views.Arrived.long o p) = omega arith
+    go (views.Arrived.empty o p) = omega arith
+    go (views.Arrived.skipped i s) = omega arith
+    go (views.Arrived.stored i s) = picked Numbered (eqb (max (r .filled) (offset + n)) (r .end)) Said.received Said.stored (omega arith) (omega arith)
+
+-- ── at the initiator of a read ──
+xfer-rdy-numbered : (r : Receiver) (iu : List ℕ) → Numbered (reading.notExpectedOf r iu .says)
+unfolding reading.notExpectedOf xferRdyOf
+xfer-rdy-numbered r iu = go (xferRdyOf iu) (picked Within (ltb (length iu) 12) _ _ (omega arith) (picked Within (ltb 12 (length iu)) (Outcome.number 24) _ (omega arith) tt))
+  where
+    go : (x : Outcome XferRdy) → Within x → Numbered (reading.rejectedBy x r .says)
+    go (Outcome.number n) h = h
+    go (Outcome.value x) h = omega arith
+
+response-numbered : (r : Receiver) (start len : ℕ) → Numbered (reading.responseOf r start len .says)
+unfolding reading.responseOf
+response-numbered r start len = picked (λ (x : Left Receiver). Numbered (x .says)) (ltb len 24) _ _ (omega arith) (omega arith)
+
+read-numbered : (r : Receiver) (f : List ℕ) (m : ℕ) → Numbered (reading.readArrivalOf r f m .says)
+unfolding reading.readArrivalOf
+read-numbered r f m = entered (entryOf (reading.readLentOf r m) (r .ended)) r _ (go (acceptOf ReadInitiator (r .transfer) f) (accepts ReadInitiator (r .transfer) f))
+  where
+    by-kind : (k : Kind) (a : Arrived) → Numbered (reading.takenOf k r a f m .says)
+    by-kind Kind.Data a = data-numbered r (a .header .offset) (a .header .flags .cdp) (a .len) m
+    by-kind Kind.XferRdy a = xfer-rdy-numbered r _
+    by-kind Kind.Response a = response-numbered r (a .start) (a .len)
+    by-kind Kind.Other a = omega arith
+
+    go : (x : Outcome Arrived) → Within x → Numbered (reading.arrivedBy x r f m .says)
+    go (Outcome.number n) h = h
+    go (Outcome.value a) h = by-kind (a .kind) a
+
+-- ── at the target of a write ──
+write-numbered : (y : Target) (f : List ℕ) (m : ℕ) → Numbered (writing.writeArrivalOf y f m .says)
+unfolding writing.writeArrivalOf writing.takenOf
+write-numbered y f m = entered (entryOf (writing.lentOf y m) (y .receiver .ended)) y _ (go (acceptOf WriteTarget (y .receiver .transfer) f) (accepts WriteTarget (y .receiver .transfer) f))
+  where
+    go : (x : Outcome Arrived) → Within x → Numbered (writing.arrivedBy x y m .says)
+    go (Outcome.number n) h = h
+    go (Outcome.value a) h =
+        picked (λ (x : Left Target). Numbered (x .says)) (writing.isCurrent y (a .header)) _ _
+        (picked (λ (x : Left Target). Numbered (x .says)) (eqb (y .state) READY) _ _
+        (data-numbered (y .receiver) (a .header .offset) (a .header .flags .cdp) (a .len) m) (omega arith)) (omega arith)
+
+pub arrival-numbered : (r : Receiving) (f b : List ℕ) → number (arriveOf r f b .says) ≤ 32
+arrival-numbered (receiving.Read r) f b = read-numbered r f (length b)
+arrival-numbered (receiving.Write y) f b = write-numbered y f (length b)
+
+-- ── its word ──
+abbrev Brief : Receipt → Type 0
+Brief x = (length (receiptWord x) ≤ 9) × ReceiptFits x
+
+number-brief : (n : ℕ) → n ≤ 32 → Brief (Number n)
+number-brief n h = (omega (arith, digits-most 1 n (omega arith)), omega arith)
+
+pub receipt-brief : (x : Said) → number x ≤ 32 → (length (receiptWord (receiptOf x)) ≤ 9) × ReceiptFits (receiptOf x)
+receipt-brief Said.stored h = (omega arith, tt)
+receipt-brief Said.received h = (omega arith, tt)
+receipt-brief (Said.told Word.discarded) h = (omega arith, tt)
+receipt-brief (Said.refused n) h = number-brief n h
+receipt-brief (Said.failed f n) h = number-brief f h
+receipt-brief (Said.frame n) h = number-brief 0 h
+receipt-brief (Said.delivered n) h = number-brief 0 h
+receipt-brief (Said.burst t) h = number-brief 0 h
+receipt-brief (Said.response start len n) h = number-brief 0 h
+receipt-brief (Said.told Word.wait) h = number-brief 0 h
+receipt-brief (Said.told Word.taken) h = number-brief 0 h
+receipt-brief (Said.told Word.retry) h = number-brief 0 h
+receipt-brief (Said.told Word.unchanged) h = number-brief 0 h
+receipt-brief (Said.told Word.acknowledged) h = number-brief 0 h
