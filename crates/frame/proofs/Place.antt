@@ -2,7 +2,7 @@
 use Prim.Native.Nat.{ℕ, _+_, _-_, _≤_}
 use mathlib.Core.List.{List, [], _∷_, _++_, append-assoc}
 use mathlib.Core.Path.{_≡_, refl, sym, ap, _∙_}
-use native.Mathlib.Nat.{zero-add}
+use native.Mathlib.Nat.{zero-add, add-zero}
 use native.Mathlib.Omega.{arith}
 use lib.ListN.{length, take, drop, length-append, length-drop, take-append-drop}
 use lib.Seq.{take-length, drop-append-le, drop-append-add, drop-drop, take-at}
@@ -30,3 +30,8 @@ extended p s d e =
 pub at-front : (p d : List ℕ) → placed d 0 p ≡ over p d
 unfolding placed over
 at-front p d = simp zero-add
+
+-- nothing put down
+pub none-placed : (d : List ℕ) (i : ℕ) → d ≡ placed d i []
+unfolding placed
+none-placed d i = sym (take-append-drop i d) ∙ ap (λ (k : ℕ). take i d ++ drop k d) (sym (add-zero i))

@@ -1,7 +1,8 @@
 // The frame writer.
 ghost use mathlib.Core.Path.{_≡_};
 ghost use Prim.Native.Nat.{_+_, _≤_, _<_};
-ghost use lib.ListN.{length};
+ghost use mathlib.Core.List.{[], _∷_};
+ghost use lib.ListN.{length, take};
 ghost use Rattle.frame.specs.Format.{fillOf, headerBytes, encode};
 ghost use Rattle.frame.specs.Write.{writable, written, writeAnswer, put, over, placed};
 use crate::byte;
@@ -63,6 +64,25 @@ fn place(src: &[u8], dst: &mut [u8], at: usize)
     bytes::copy(src, &mut dst[at..]);
 }
 
+// Puts n zeros down at `at`, 3 at most: each number by itself, so that no call to clear memory is made of it.
+fn clear(dst: &mut [u8], at: usize, n: usize)
+    requires { ⌜ (n ≤ 3) × (at + n ≤ length (now dst)) ⌝ }
+    ensures { λ _. ⌜ now (dst .exit) ≡ placed (now (dst .entry)) at (take n (0 ∷ 0 ∷ 0 ∷ [])) ⌝ }
+{
+    if n == 1 {
+        place(&[0u8; 1], dst, at);
+        return;
+    }
+    if n == 2 {
+        place(&[0u8; 2], dst, at);
+        return;
+    }
+    if n == 3 {
+        place(&[0u8; 3], dst, at);
+        return;
+    }
+}
+
 // Puts header, IU and fill down, where they fit.
 fn put_frame(h: Header, iu: &[u8], out: &mut [u8])
     requires { ⌜ length (encode h (now iu)) ≤ length (now out) ⌝ }
@@ -71,10 +91,9 @@ fn put_frame(h: Header, iu: &[u8], out: &mut [u8])
     let n = iu.len();
     let fill = fill_of(n);
     let header = head(h, fill as u8);
-    let zeros = [0u8; 3];
     place(&header, out, 0);
     place(iu, out, 24);
-    place(&zeros[..fill], out, 24 + n);
+    clear(out, 24 + n, fill);
 }
 
 // 1, 3, else the frame's length; the frame stands at the front of the output buffer.

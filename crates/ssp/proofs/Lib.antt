@@ -1,0 +1,9 @@
+pub mod Passed
+pub mod Written
+pub mod Place
+pub mod LentTransfer
+pub mod LentBuffers
+pub mod LentEvent
+pub mod LentBytes
+pub mod LentOut
+pub mod LentTransferLen

@@ -1,0 +1,24 @@
+-- `ssp::ssp_read_send_frame` meets its contract: it is `LentBytes.antt`'s function at `arrival`.
+-- Assumes nothing.
+use Rattle.target.specs.Read.{readArrivalOf}
+use Rattle.ssp.specs.Told.{Leaves}
+use contract.Running.{givenOf, tables, tablesOf}
+use denote.Triple.Spec.{tripleOf}
+use denote.Triple.Table.{entered, cited}
+use Rattle.ssp.proofs.Place.{sender}
+use Rattle.ssp.proofs.LentBytes.{meets}
+use Rattle.ssp.proofs.read_send.arrival as g
+use Rattle.ssp.proofs.read_send.arrival.Symbol as g-def
+use Rattle.ssp.proofs.read_send.arrival.Met as g-thm
+use Rattle.ssp.proofs.read_send.ssp_read_send_frame as f
+use Rattle.ssp.proofs.read_send.ssp_read_send_frame.Key as f-key
+use Rattle.ssp.proofs.read_send.ssp_read_send_frame.Statement as stated
+use Rattle.ssp.proofs.read_send.ssp_read_send_frame.Code as code
+
+pub ssp-read-send-frame-spec : {M : Type 1} → stated.statement M
+unfolding code.routine tablesOf
+ssp-read-send-frame-spec 𝓤 H 𝓜 𝓖 𝓡 =
+    entered 𝓤 H (tripleOf 𝓤 H (𝓖 .A) f.signature (f.spec 𝓤 H (𝓖 .A) (𝓜 .mem) (𝓡 .run)))
+    (tables 𝓤 H 𝓜 𝓡 code.env .C) (tables 𝓤 H 𝓜 𝓡 code.env .Λ) f-key.name code.function (code.unfolded 𝓤 H 𝓜 𝓡)
+    (meets sender g-def.name (λ h f. Leaves (readArrivalOf h f)) 𝓤 H (𝓖 .A) (givenOf 𝓤 H 𝓜 𝓖) (tablesOf 𝓤 H 𝓜 (tables 𝓤 H 𝓜 𝓡 code.env))
+    (cited 𝓤 H (tripleOf 𝓤 H (𝓖 .A) g.signature (g.spec 𝓤 H (𝓖 .A) (𝓜 .mem) (𝓡 .run))) 𝓜 𝓡 code.env g-def.name g-def.routine code.calls-ssp·read-send·arrival (g-thm.met 𝓤 H 𝓜 𝓖 𝓡)))

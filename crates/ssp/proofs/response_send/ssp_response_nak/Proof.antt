@@ -1,0 +1,24 @@
+-- `ssp::ssp_response_nak` meets its contract: it is `LentEvent.antt`'s function at `nak`.
+-- Assumes nothing.
+use Rattle.response.specs.Answer.{nakOf}
+use Rattle.ssp.specs.Told.{Leaves}
+use contract.Running.{givenOf, tables, tablesOf}
+use denote.Triple.Spec.{tripleOf}
+use denote.Triple.Table.{entered, cited}
+use Rattle.ssp.proofs.Place.{responder}
+use Rattle.ssp.proofs.LentEvent.{meets}
+use Rattle.ssp.proofs.response_send.nak as g
+use Rattle.ssp.proofs.response_send.nak.Symbol as g-def
+use Rattle.ssp.proofs.response_send.nak.Met as g-thm
+use Rattle.ssp.proofs.response_send.ssp_response_nak as f
+use Rattle.ssp.proofs.response_send.ssp_response_nak.Key as f-key
+use Rattle.ssp.proofs.response_send.ssp_response_nak.Statement as stated
+use Rattle.ssp.proofs.response_send.ssp_response_nak.Code as code
+
+pub ssp-response-nak-spec : {M : Type 1} → stated.statement M
+unfolding code.routine tablesOf
+ssp-response-nak-spec 𝓤 H 𝓜 𝓖 𝓡 =
+    entered 𝓤 H (tripleOf 𝓤 H (𝓖 .A) f.signature (f.spec 𝓤 H (𝓖 .A) (𝓜 .mem) (𝓡 .run)))
+    (tables 𝓤 H 𝓜 𝓡 code.env .C) (tables 𝓤 H 𝓜 𝓡 code.env .Λ) f-key.name code.function (code.unfolded 𝓤 H 𝓜 𝓡)
+    (meets responder g-def.name (λ h. Leaves (nakOf h)) 𝓤 H (𝓖 .A) (givenOf 𝓤 H 𝓜 𝓖) (tablesOf 𝓤 H 𝓜 (tables 𝓤 H 𝓜 𝓡 code.env))
+    (cited 𝓤 H (tripleOf 𝓤 H (𝓖 .A) g.signature (g.spec 𝓤 H (𝓖 .A) (𝓜 .mem) (𝓡 .run))) 𝓜 𝓡 code.env g-def.name g-def.routine code.calls-ssp·response-send·nak (g-thm.met 𝓤 H 𝓜 𝓖 𝓡)))

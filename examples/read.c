@@ -1,0 +1,144 @@
+/* A read of 46 bytes over a link that loses a frame, and damages one in the retry. Both ports run here: the target sends, the initiator
+ * receives. The link is the table of fates below and a list of answers. C-EXAMPLES.md says how each line of read.out follows. */
+#include <stdlib.h>
+
+#include "show.h"
+
+enum { COUNT = 46, SIZE = 8, WINDOW = 3, LIMIT = 2, IU = 24 };
+
+/* What the link does to the frames, in the order in which they go out; past the list they come whole. */
+enum fate { WHOLE, DAMAGED, LOST };
+static const enum fate fates[] = {WHOLE, WHOLE, WHOLE, WHOLE, LOST, WHOLE, WHOLE, DAMAGED, WHOLE};
+static const char *const fate_words[] = {"whole", "damaged", "lost"};
+
+static ssp_sender target;      /* the sending port */
+static ssp_receiver initiator; /* the receiving port */
+static uint8_t sent[COUNT];    /* the target's data buffer */
+static uint8_t received[COUNT];
+static uint8_t frame[SSP_FRAME_MOST];
+static size_t frame_len;
+static unsigned frames; /* handed out */
+
+/* Answers on the way to the target. */
+static char answers[SSP_WINDOW_MOST];
+static unsigned waiting;
+
+static enum fate fate_of(unsigned n) {
+    return n < sizeof fates / sizeof fates[0] ? fates[n] : WHOLE;
+}
+
+/* The frame is on the link: it reaches the initiator or not, and is answered or not. */
+static void carry(void) {
+    ssp_header h = {0};
+    ssp_answer f = ssp_frame_read(&h, frame, frame_len);
+    enum fate fate = fate_of(frames);
+    const char *what = "nothing";
+    frames++;
+    if (fate == WHOLE) {
+        what = word(ssp_read_receive_frame(&initiator, frame, frame_len, received, COUNT));
+        answers[waiting++] = 'A';
+    } else if (fate == DAMAGED) {
+        answers[waiting++] = 'N';
+    }
+    printf("frame %2u  offset %2u  bytes %u  CDP %d  %-7s  initiator: %s\n", frames, (unsigned)h.offset, (unsigned)f.len, h.cdp,
+           fate_words[fate], what);
+}
+
+/* Frames go out until the target says wait. */
+static void send_all(void) {
+    for (;;) {
+        ssp_answer a = ssp_read_send_next_frame(&target, sent, COUNT, frame, sizeof frame);
+        if (a.what == SSP_WAIT) {
+            printf("target waits\n");
+            return;
+        }
+        if (a.what != SSP_FRAME) {
+            printf("target: %s\n", word(a));
+            exit(1);
+        }
+        frame_len = a.len;
+        carry();
+    }
+}
+
+static void tell(const char *event, ssp_answer a) {
+    printf("%-7s  %-9s  unanswered %u  next %2u  balance %2u  retries %u\n", event, word(a), (unsigned)target.unanswered,
+           (unsigned)target.next, (unsigned)target.balance, (unsigned)target.retries);
+}
+
+/* The answers reach the target in order; then a timeout if any is missing. */
+static ssp_answer answer_all(void) {
+    ssp_answer a = {0};
+    unsigned i;
+    for (i = 0; i < waiting; i++) {
+        if (answers[i] == 'A') {
+            a = ssp_read_send_ack(&target);
+            tell("ACK", a);
+        } else {
+            a = ssp_read_send_nak(&target);
+            tell("NAK", a);
+        }
+    }
+    waiting = 0;
+    if (target.unanswered > 0) {
+        a = ssp_read_send_timeout(&target);
+        tell("timeout", a);
+    }
+    return a;
+}
+
+static void respond(ssp_transfer t) {
+    static const uint8_t iu[IU]; /* status and sense are the caller's; here all zero */
+    static uint8_t out[SSP_FRAME_MOST];
+    ssp_responder responder = {0};
+    ssp_answer a, b;
+    ssp_response_set_up(&responder, t, IU);
+    a = ssp_response_next_frame(&responder, iu, IU, out, sizeof out);
+    b = ssp_read_receive_frame(&initiator, out, a.len, received, COUNT);
+    printf("RESPONSE  %u bytes  initiator: %s, IU of %u bytes from byte %u\n", (unsigned)a.len, word(b), (unsigned)b.len,
+           (unsigned)b.start);
+    printf("ACK of the RESPONSE: %s\n", word(ssp_response_ack(&responder)));
+}
+
+int main(void) {
+    ssp_transfer at_target = {0};
+    ssp_transfer at_initiator;
+    ssp_answer a;
+    unsigned i;
+
+    at_target.write = false;
+    at_target.count = COUNT;
+    at_target.size = SIZE;
+    at_target.window = WINDOW;
+    at_target.limit = LIMIT;
+    at_target.burst = COUNT; /* not used by a read; within its limits all the same */
+    at_target.local = 0xABCDEF;
+    at_target.remote = 0x123456;
+    at_target.tag = 0x0012;
+    at_initiator = at_target;
+    at_initiator.local = at_target.remote;
+    at_initiator.remote = at_target.local;
+    for (i = 0; i < COUNT; i++) {
+        sent[i] = (uint8_t)(i + 1);
+    }
+
+    printf("read: %d bytes, %d per frame, window %d, retry limit %d\n", COUNT, SIZE, WINDOW, LIMIT);
+    if (ssp_read_send_set_up(&target, at_target).what != SSP_READY ||
+        ssp_read_receive_set_up(&initiator, at_initiator).what != SSP_READY) {
+        printf("not set up\n");
+        return 1;
+    }
+    do {
+        send_all();
+        a = answer_all();
+    } while (a.what == SSP_TAKEN || a.what == SSP_RETRY);
+    printf("report: %s, %u frames handed out\n", word(a), (unsigned)a.frames);
+    printf("data: %u of %d bytes as at the target\n", same_bytes(sent, received, COUNT), COUNT);
+
+    respond(at_target);
+
+    /* Both records have ended: further calls are refused and change nothing. */
+    printf("one ACK more: %s\n", word(ssp_read_send_ack(&target)));
+    printf("frame %u once more: %s\n", frames, word(ssp_read_receive_frame(&initiator, frame, frame_len, received, COUNT)));
+    return 0;
+}

@@ -1,0 +1,153 @@
+/* A write of 24 bytes in two bursts. The ACK of the first XFER_RDY is lost, so the target sends it again; in the second burst a DATA
+ * frame is damaged. Both ports run here. C-EXAMPLES.md says how each line of write.out follows. */
+#include <stdlib.h>
+#include <string.h>
+
+#include "show.h"
+
+enum { COUNT = 24, SIZE = 8, WINDOW = 4, LIMIT = 2, BURST = 12, IU = 24 };
+
+enum fate { WHOLE, DAMAGED };
+static const char *const fate_words[] = {"whole", "damaged"};
+
+static ssp_writer initiator; /* sends DATA */
+static ssp_target target;    /* sends XFER_RDY, receives DATA */
+static uint8_t sent[COUNT];  /* the initiator's data buffer */
+static uint8_t received[COUNT];
+static uint8_t frame[SSP_FRAME_MOST];
+static size_t frame_len;
+
+static void stop(const char *who, ssp_answer a) {
+    printf("%s: %s\n", who, word(a));
+    exit(1);
+}
+
+/* The target hands out its XFER_RDY, which reaches the initiator whole. */
+static void xfer_rdy(void) {
+    ssp_header h = {0};
+    ssp_xfer_rdy x = {0, 0};
+    ssp_answer a = ssp_write_receive_next_frame(&target, frame, sizeof frame);
+    ssp_answer f;
+    if (a.what != SSP_FRAME) {
+        stop("target", a);
+    }
+    f = ssp_frame_read(&h, frame, a.len);
+    ssp_xfer_rdy_read(&x, frame + f.start, f.len);
+    printf("XFER_RDY  offset %2u  length %u  TPTT %u  RETRY DATA FRAMES %d  RETRANSMIT %d  initiator: %s\n", (unsigned)x.offset,
+           (unsigned)x.len, (unsigned)h.tptt, h.retry, h.retransmit, word(ssp_write_send_frame(&initiator, frame, a.len)));
+}
+
+/* The initiator hands out a DATA frame, which meets its fate. */
+static void data(enum fate fate) {
+    ssp_header h = {0};
+    ssp_answer a = ssp_write_send_next_frame(&initiator, sent, COUNT, frame, sizeof frame);
+    ssp_answer f;
+    const char *what = "nothing";
+    if (a.what != SSP_FRAME) {
+        stop("initiator", a);
+    }
+    frame_len = a.len;
+    f = ssp_frame_read(&h, frame, frame_len);
+    if (fate == WHOLE) {
+        what = word(ssp_write_receive_frame(&target, frame, frame_len, received, COUNT));
+    }
+    printf("DATA  offset %2u  bytes %u  CDP %d  TPTT %u  %-7s  target: %s\n", (unsigned)h.offset, (unsigned)f.len, h.cdp,
+           (unsigned)h.tptt, fate_words[fate], what);
+}
+
+static void initiator_waits(void) {
+    ssp_answer a = ssp_write_send_next_frame(&initiator, sent, COUNT, frame, sizeof frame);
+    printf("initiator asked for a frame: %s\n", word(a));
+}
+
+/* An answer that reaches the initiator. */
+static void tell(const char *event, ssp_answer a) {
+    printf("%-7s  initiator: %-9s  unanswered %u  next %2u  retries %u\n", event, word(a), (unsigned)initiator.sender.unanswered,
+           (unsigned)initiator.sender.next, (unsigned)initiator.sender.retries);
+    if (a.what == SSP_DELIVERED) {
+        printf("report: burst delivered, %u frames handed out\n", (unsigned)a.frames);
+    }
+}
+
+static void respond(ssp_transfer t) {
+    static const uint8_t iu[IU]; /* status and sense are the caller's; here all zero */
+    ssp_responder responder = {0};
+    ssp_answer a, b;
+    ssp_response_set_up(&responder, t, IU);
+    a = ssp_response_next_frame(&responder, iu, IU, frame, sizeof frame);
+    b = ssp_write_send_frame(&initiator, frame, a.len);
+    printf("RESPONSE  %u bytes  initiator: %s, IU of %u bytes from byte %u, %u frames in the last burst\n", (unsigned)a.len, word(b),
+           (unsigned)b.len, (unsigned)b.start, (unsigned)b.frames);
+    printf("ACK of the RESPONSE: %s\n", word(ssp_response_ack(&responder)));
+}
+
+int main(void) {
+    ssp_transfer at_initiator = {0};
+    ssp_transfer at_target;
+    uint8_t early[SSP_FRAME_MOST];
+    size_t early_len;
+    unsigned i;
+
+    at_initiator.write = true;
+    at_initiator.count = COUNT;
+    at_initiator.size = SIZE;
+    at_initiator.window = WINDOW;
+    at_initiator.limit = LIMIT;
+    at_initiator.burst = BURST;
+    at_initiator.local = 0x123456;
+    at_initiator.remote = 0xABCDEF;
+    at_initiator.tag = 0x0034;
+    at_target = at_initiator;
+    at_target.local = at_initiator.remote;
+    at_target.remote = at_initiator.local;
+    for (i = 0; i < COUNT; i++) {
+        sent[i] = (uint8_t)(i + 1);
+    }
+
+    printf("write: %d bytes, %d per frame, window %d, retry limit %d, bursts of %d\n", COUNT, SIZE, WINDOW, LIMIT, BURST);
+    if (ssp_write_send_set_up(&initiator, at_initiator).what != SSP_READY ||
+        ssp_write_receive_set_up(&target, at_target).what != SSP_READY) {
+        printf("not set up\n");
+        return 1;
+    }
+    initiator_waits(); /* no XFER_RDY yet */
+
+    /* The first XFER_RDY arrives, its ACK is lost. The initiator has begun already. */
+    xfer_rdy();
+    printf("its ACK is lost\n");
+    data(WHOLE);
+    memcpy(early, frame, frame_len);
+    early_len = frame_len;
+    tell("ACK", ssp_write_send_ack(&initiator));
+    printf("timeout  target: %s\n", word(ssp_write_receive_timeout(&target)));
+
+    /* It is sent again, and the initiator starts the burst again. */
+    xfer_rdy();
+    printf("ACK      target: %s\n", word(ssp_write_receive_ack(&target)));
+    printf("DATA under TPTT 0 once more: %s\n", word(ssp_write_receive_frame(&target, early, early_len, received, COUNT)));
+    data(WHOLE);
+    data(WHOLE);
+    initiator_waits();
+    tell("ACK", ssp_write_send_ack(&initiator));
+    tell("ACK", ssp_write_send_ack(&initiator));
+
+    /* The second burst: its first frame is damaged. */
+    xfer_rdy();
+    printf("ACK      target: %s\n", word(ssp_write_receive_ack(&target)));
+    data(DAMAGED);
+    data(WHOLE);
+    initiator_waits();
+    tell("NAK", ssp_write_send_nak(&initiator));
+    tell("ACK", ssp_write_send_ack(&initiator));
+    data(WHOLE);
+    data(WHOLE);
+    initiator_waits();
+    tell("ACK", ssp_write_send_ack(&initiator));
+    tell("ACK", ssp_write_send_ack(&initiator));
+
+    printf("target asked for a frame: %s\n", word(ssp_write_receive_next_frame(&target, frame, sizeof frame)));
+    printf("data: %u of %d bytes as at the initiator\n", same_bytes(sent, received, COUNT), COUNT);
+    respond(at_target);
+    initiator_waits();
+    return 0;
+}

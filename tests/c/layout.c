@@ -1,0 +1,29 @@
+/* Each field that C sets is the one that the library sees: every field of every record is set by itself to a telling value, and an answer,
+ * a frame's bytes or the record that is left shows that the library reads it there. All functions are called. Prints one line. */
+#include "layout.h"
+#include "layout_read.h"
+#include "layout_write.h"
+#include "layout_rest.h"
+
+int main(void) {
+    unsigned i;
+    for (i = 0; i < sizeof data; i++) {
+        data[i] = (uint8_t)(i + 1);
+    }
+    for (i = 0; i < sizeof iu; i++) {
+        iu[i] = (uint8_t)(i * 7 + 1);
+    }
+    transfer_fields();
+    sender_fields();
+    receiver_fields();
+    writer_fields();
+    target_fields();
+    responder_fields();
+    header_fields();
+    if (wrong > 0) {
+        printf("%u of %u checks failed\n", wrong, checks);
+        return 1;
+    }
+    printf("%u checks passed\n", checks);
+    return 0;
+}

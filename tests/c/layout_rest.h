@@ -1,0 +1,121 @@
+/* The RESPONSE's record, frame header and XFER_RDY: part of layout.c. */
+static void responder_fields(void) {
+    {
+        ssp_responder x, want = responder();
+        memset(&x, 0, sizeof x);
+        TRY("a RESPONSE's set-up", says(ssp_response_set_up(&x, want.transfer, 28), SSP_READY) && same_responder(x, want));
+        TRY("a RESPONSE of 23 bytes", refused(ssp_response_set_up(&x, want.transfer, 23), 1));
+        TRY("a RESPONSE of 1,025 bytes", refused(ssp_response_set_up(&x, want.transfer, 1025), 1));
+        TRY("a RESPONSE of more than 32 bits", refused(ssp_response_set_up(&x, want.transfer, (size_t)0x10000001C), 1));
+        TRY("a RESPONSE refused: the record left", same_responder(x, want));
+        TRY("a RESPONSE", framed(ask_response(&x), 52) && out[0] == SSP_TYPE_RESPONSE && out[10] == 0);
+        TRY("a RESPONSE: its IU", memcmp(out + 24, iu, 28) == 0 && be(18, 2) == 0 && be(20, 4) == 0);
+        want.unanswered = true;
+        TRY("a RESPONSE: the record left", same_responder(x, want));
+    }
+    RESPONDER(transfer.count, 0, refused(ask_response(&x), 1));
+    RESPONDER(transfer.size, 6, refused(ask_response(&x), 1));
+    RESPONDER(transfer.window, 65, refused(ask_response(&x), 1));
+    RESPONDER(transfer.limit, 16, refused(ask_response(&x), 1));
+    RESPONDER(transfer.burst, 47, refused(ask_response(&x), 1));
+    RESPONDER(transfer.write, true, framed(ask_response(&x), 52)); /* of a read or a write */
+    RESPONDER(transfer.local, 0x010203, framed(ask_response(&x), 52) && be(5, 3) == 0x010203);
+    RESPONDER(transfer.remote, 0x040506, framed(ask_response(&x), 52) && be(1, 3) == 0x040506);
+    RESPONDER(transfer.tag, 0xBEEF, framed(ask_response(&x), 52) && be(16, 2) == 0xBEEF);
+    RESPONDER(len, 24, refused(ask_response(&x), 1));
+    RESPONDER(len, 24, framed(ssp_response_next_frame(&x, iu, 24, out, sizeof out), 48));
+    RESPONDER(len, 23, refused(ssp_response_next_frame(&x, iu, 23, out, sizeof out), 1));
+    RESPONDER(unanswered, true, says(ask_response(&x), SSP_WAIT));
+    RESPONDER(unanswered, true, says(ssp_response_ack(&x), SSP_DELIVERED) && x.ended && !x.unanswered);
+    RESPONDER(unanswered, false, refused(ssp_response_ack(&x), 4) && refused(ssp_response_nak(&x), 4));
+    RESPONDER(unanswered, false, refused(ssp_response_timeout(&x), 4) && says(ssp_response_cut(&x), SSP_UNCHANGED));
+    RESPONDER(retries, 1, framed(ask_response(&x), 52) && out[10] == 2); /* RETRANSMIT */
+    RESPONDER(retries, 3, refused(ask_response(&x), 1));
+    SENT(retries, 1, says(ssp_response_nak(&x), SSP_RETRY) && x.retries == 2 && !x.unanswered);
+    SENT(retries, 0, says(ssp_response_timeout(&x), SSP_RETRY) && x.retries == 1);
+    SENT(retries, 0, says(ssp_response_cut(&x), SSP_RETRY) && x.retries == 1);
+    SENT(retries, 2, failed(ssp_response_nak(&x), 28, 0) && x.ended);
+    SENT(retries, 2, failed(ssp_response_timeout(&x), 29, 0));
+    SENT(retries, 2, failed(ssp_response_cut(&x), 30, 0));
+    SENT(transfer.limit, 0, says(ssp_response_nak(&x), SSP_RETRY)); /* once even with retries off */
+    SENT(transfer.limit, 1, says(ssp_response_nak(&x), SSP_RETRY) && framed(ask_response(&x), 52) && failed(ssp_response_nak(&x), 28, 0));
+    SENT(ended, true, refused(ask_response(&x), 2) && refused(ssp_response_ack(&x), 2) && refused(ssp_response_nak(&x), 2));
+    SENT(ended, true, refused(ssp_response_timeout(&x), 2) && refused(ssp_response_cut(&x), 2));
+    SENT(ended, true, refused(ssp_response_nexus_loss(&x), 2));
+    SENT(ended, false, failed(ssp_response_nexus_loss(&x), 31, 0) && x.ended && !x.unanswered);
+}
+
+/* ---- ssp_header, ssp_xfer_rdy ---- */
+
+/* Writes a header that is zero but for one field, says where its bytes stand, and reads it back. */
+#define HEADER(field, value, bytes)                                                   \
+    do {                                                                              \
+        ssp_header h = header(SSP_TYPE_DATA, 0, 0), back;                             \
+        ssp_answer w, r;                                                              \
+        h.tag = 0;                                                                    \
+        h.field = (value);                                                            \
+        memset(&back, 0, sizeof back);                                                \
+        w = ssp_frame_write(h, iu, 0, out, sizeof out);                               \
+        TRY("ssp_header." #field " = " #value ": " #bytes, framed(w, 24) && (bytes)); \
+        r = ssp_frame_read(&back, out, 24);                                           \
+        TRY("ssp_header." #field " = " #value " read back",                           \
+            is(r, SSP_PARSED, 0, 0, 24, 0) && same_header(h, back));                  \
+    } while (0)
+
+static void header_fields(void) {
+    static const uint8_t rung[24] = {0x01, 0x12, 0x34, 0x56, 0, 0xAB, 0xCD, 0xEF, 0, 0, 0, 0, 0, 0, 0, 0, 0, 0x12, 0, 0, 0, 0, 0, 4};
+    ssp_header h = header(SSP_TYPE_DATA, 0x123456, 0xABCDEF), back = h;
+    ssp_xfer_rdy x, y;
+
+    h.offset = 4;
+    TRY("the paper's header, R1", framed(ssp_frame_write(h, data, 4, out, sizeof out), 28) && memcmp(out, rung, 24) == 0);
+    TRY("two data bytes, R2", framed(ssp_frame_write(h, data, 2, out, sizeof out), 28) && out[11] == 2);
+    TRY("two data bytes read", is(ssp_frame_read(&back, out, 28), SSP_PARSED, 0, 0, 24, 2) && same_header(h, back));
+
+    HEADER(kind, SSP_TYPE_XFER_RDY, out[0] == 5);
+    HEADER(kind, SSP_TYPE_COMMAND, out[0] == 6);
+    HEADER(kind, SSP_TYPE_RESPONSE, out[0] == 7);
+    HEADER(kind, SSP_TYPE_TASK, out[0] == 0x16);
+    HEADER(dest, 0x010203, be(1, 3) == 0x010203 && be(4, 4) == 0 && be(16, 4) == 0 && be(20, 4) == 0);
+    HEADER(source, 0x040506, be(5, 3) == 0x040506 && be(1, 4) == 0 && be(16, 4) == 0 && be(20, 4) == 0);
+    HEADER(retry, true, be(8, 4) == 0x0400);
+    HEADER(retransmit, true, be(8, 4) == 0x0200);
+    HEADER(cdp, true, be(8, 4) == 0x0100);
+    HEADER(tag, 0x0708, be(16, 4) == 0x07080000 && be(20, 4) == 0);
+    HEADER(tptt, 0x090A, be(16, 4) == 0x090A && be(20, 4) == 0);
+    HEADER(offset, 0x0B0C0D0E, be(20, 4) == 0x0B0C0D0E && be(16, 4) == 0);
+
+    back = h;
+    h.kind = 2;
+    TRY("ssp_header.kind = 2", refused(ssp_frame_write(h, iu, 0, out, sizeof out), 1));
+    h.kind = SSP_TYPE_DATA;
+    h.dest = 0x1000000;
+    TRY("ssp_header.dest = 0x1000000", refused(ssp_frame_write(h, iu, 0, out, sizeof out), 1));
+    h.dest = 0;
+    h.source = 0x1000000;
+    TRY("ssp_header.source = 0x1000000", refused(ssp_frame_write(h, iu, 0, out, sizeof out), 1));
+    h.source = 0;
+    TRY("an IU of 1,024 bytes", framed(ssp_frame_write(h, iu, 1024, out, sizeof out), 1048));
+    TRY("an IU of 1,025 bytes", refused(ssp_frame_write(h, iu, 1025, out, sizeof out), 1));
+    TRY("an output buffer of 23 bytes", refused(ssp_frame_write(h, iu, 0, out, 23), 3));
+    h = back;
+    out[0] = 2;
+    TRY("a frame of type 2", refused(ssp_frame_read(&back, out, 24), 6) && same_header(h, back));
+    TRY("a frame of 23 bytes", refused(ssp_frame_read(&back, out, 23), 5) && same_header(h, back));
+
+    memset(&y, 0, sizeof y);
+    memset(out, 0xEE, sizeof out);
+    x.offset = 0x01020304;
+    x.len = 0x05060708;
+    TRY("ssp_xfer_rdy written", framed(ssp_xfer_rdy_write(x, out, sizeof out), 12) && out[12] == 0xEE);
+    TRY("ssp_xfer_rdy.offset", be(0, 4) == 0x01020304);
+    TRY("ssp_xfer_rdy.len", be(4, 4) == 0x05060708 && be(8, 4) == 0);
+    TRY("ssp_xfer_rdy read", ssp_xfer_rdy_read(&y, out, 12).what == SSP_PARSED);
+    TRY("ssp_xfer_rdy.offset read", y.offset == 0x01020304);
+    TRY("ssp_xfer_rdy.len read", y.len == 0x05060708);
+    x = y;
+    out[0] = 0xFF;
+    TRY("an XFER_RDY's IU of 11 bytes, R10", failed(ssp_xfer_rdy_read(&y, out, 11), 23, 0) && y.offset == x.offset && y.len == x.len);
+    TRY("an XFER_RDY's IU of 13 bytes, R10", failed(ssp_xfer_rdy_read(&y, out, 13), 24, 0) && y.offset == x.offset && y.len == x.len);
+    TRY("an output buffer of 11 bytes", refused(ssp_xfer_rdy_write(x, out, 11), 3) && out[0] == 0xFF);
+}
