@@ -1,0 +1,10 @@
+//! What compares the library with the port.
+pub mod ladders;
+pub mod made_up;
+pub mod pair;
+pub mod rng;
+pub mod single;
+pub mod sources;
+pub mod tree;
+pub mod vectors;
+pub mod world;

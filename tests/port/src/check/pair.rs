@@ -1,0 +1,180 @@
+//! One record at both sides; each call goes to both, and all that it may touch is compared.
+use crate::ffi::*;
+use crate::records::*;
+use crate::{read_receive, read_send, response, write_receive, write_send};
+use std::sync::atomic::{AtomicU64, Ordering::Relaxed};
+
+/// How often each record gave each answer: by record, what, number.
+pub static SEEN: [[[AtomicU64; 33]; 18]; 5] = [const { [const { [const { AtomicU64::new(0) }; 33] }; 18] }; 5];
+
+fn seen(rec: &Rec, a: &Answer) {
+    let i = match rec {
+        Rec::Sender(_) => 0,
+        Rec::Receiver(_) => 1,
+        Rec::Writer(_) => 2,
+        Rec::Target(_) => 3,
+        Rec::Responder(_) => 4,
+    };
+    SEEN[i][usize::from(a.what)][usize::from(a.number)].fetch_add(1, Relaxed);
+}
+
+#[derive(Clone, Copy, PartialEq, Eq, Debug)]
+pub enum Rec {
+    Sender(Sender),
+    Receiver(Receiver),
+    Writer(Writer),
+    Target(Target),
+    Responder(Responder),
+}
+
+#[derive(Clone, PartialEq, Eq, Debug)]
+pub enum Call {
+    SetUp(Transfer, usize),
+    /// Lengths of the data buffer (or IU) and of the output buffer.
+    Next(usize, usize),
+    Ack,
+    Nak,
+    Timeout,
+    Cut,
+    Loss,
+    /// Bytes that arrive, and the length of the data buffer.
+    Frame(Vec<u8>, usize),
+}
+
+pub fn port(rec: &mut Rec, call: &Call, data: &mut [u8], out: &mut [u8]) -> Option<Answer> {
+    use Call::*;
+    Some(match (rec, call) {
+        (Rec::Sender(r), SetUp(t, _)) => read_send::set_up(r, *t),
+        (Rec::Sender(r), Next(d, o)) => read_send::next_frame(r, &data[..*d], &mut out[..*o]),
+        (Rec::Sender(r), Ack) => read_send::ack(r),
+        (Rec::Sender(r), Nak) => read_send::nak(r),
+        (Rec::Sender(r), Timeout) => read_send::timeout(r),
+        (Rec::Sender(r), Cut) => read_send::cut(r),
+        (Rec::Sender(r), Loss) => read_send::nexus_loss(r),
+        (Rec::Sender(r), Frame(b, _)) => read_send::arrives(r, b),
+        (Rec::Receiver(r), SetUp(t, _)) => read_receive::set_up(r, *t),
+        (Rec::Receiver(r), Loss) => read_receive::nexus_loss(r),
+        (Rec::Receiver(r), Frame(b, d)) => read_receive::arrives(r, b, &mut data[..*d]),
+        (Rec::Receiver(_), _) => return None,
+        (Rec::Writer(r), SetUp(t, _)) => write_send::set_up(r, *t),
+        (Rec::Writer(r), Next(d, o)) => write_send::next_frame(r, &data[..*d], &mut out[..*o]),
+        (Rec::Writer(r), Ack) => write_send::ack(r),
+        (Rec::Writer(r), Nak) => write_send::nak(r),
+        (Rec::Writer(r), Timeout) => write_send::timeout(r),
+        (Rec::Writer(r), Cut) => write_send::cut(r),
+        (Rec::Writer(r), Loss) => write_send::nexus_loss(r),
+        (Rec::Writer(r), Frame(b, _)) => write_send::arrives(r, b),
+        (Rec::Target(r), SetUp(t, _)) => write_receive::set_up(r, *t),
+        (Rec::Target(r), Next(_, o)) => write_receive::next_frame(r, &mut out[..*o]),
+        (Rec::Target(r), Ack) => write_receive::ack(r),
+        (Rec::Target(r), Nak) => write_receive::nak(r),
+        (Rec::Target(r), Timeout) => write_receive::timeout(r),
+        (Rec::Target(r), Cut) => write_receive::cut(r),
+        (Rec::Target(r), Loss) => write_receive::nexus_loss(r),
+        (Rec::Target(r), Frame(b, d)) => write_receive::arrives(r, b, &mut data[..*d]),
+        (Rec::Responder(r), SetUp(t, n)) => response::set_up(r, *t, *n),
+        (Rec::Responder(r), Next(d, o)) => response::next_frame(r, &data[..*d], &mut out[..*o]),
+        (Rec::Responder(r), Ack) => response::ack(r),
+        (Rec::Responder(r), Nak) => response::nak(r),
+        (Rec::Responder(r), Timeout) => response::timeout(r),
+        (Rec::Responder(r), Cut) => response::cut(r),
+        (Rec::Responder(r), Loss) => response::nexus_loss(r),
+        (Rec::Responder(_), Frame(..)) => return None,
+    })
+}
+
+/// `sent`: a copy of the bytes that arrive.
+pub fn lib(rec: &mut Rec, call: &Call, sent: &mut [u8], data: &mut [u8], out: &mut [u8]) -> Option<Answer> {
+    use Call::*;
+    let (b, len) = (sent.as_mut_ptr(), sent.len());
+    let (d, o) = (data.as_mut_ptr(), out.as_mut_ptr());
+    // Lengths were tested by the port's own slices of the same buffers.
+    Some(unsafe {
+        match (rec, call) {
+            (Rec::Sender(r), SetUp(t, _)) => ssp_read_send_set_up(r, *t),
+            (Rec::Sender(r), Next(n, m)) => ssp_read_send_next_frame(r, d, *n, o, *m),
+            (Rec::Sender(r), Ack) => ssp_read_send_ack(r),
+            (Rec::Sender(r), Nak) => ssp_read_send_nak(r),
+            (Rec::Sender(r), Timeout) => ssp_read_send_timeout(r),
+            (Rec::Sender(r), Cut) => ssp_read_send_cut(r),
+            (Rec::Sender(r), Loss) => ssp_read_send_nexus_loss(r),
+            (Rec::Sender(r), Frame(..)) => ssp_read_send_frame(r, b, len),
+            (Rec::Receiver(r), SetUp(t, _)) => ssp_read_receive_set_up(r, *t),
+            (Rec::Receiver(r), Loss) => ssp_read_receive_nexus_loss(r),
+            (Rec::Receiver(r), Frame(_, n)) => ssp_read_receive_frame(r, b, len, d, *n),
+            (Rec::Receiver(_), _) => return None,
+            (Rec::Writer(r), SetUp(t, _)) => ssp_write_send_set_up(r, *t),
+            (Rec::Writer(r), Next(n, m)) => ssp_write_send_next_frame(r, d, *n, o, *m),
+            (Rec::Writer(r), Ack) => ssp_write_send_ack(r),
+            (Rec::Writer(r), Nak) => ssp_write_send_nak(r),
+            (Rec::Writer(r), Timeout) => ssp_write_send_timeout(r),
+            (Rec::Writer(r), Cut) => ssp_write_send_cut(r),
+            (Rec::Writer(r), Loss) => ssp_write_send_nexus_loss(r),
+            (Rec::Writer(r), Frame(..)) => ssp_write_send_frame(r, b, len),
+            (Rec::Target(r), SetUp(t, _)) => ssp_write_receive_set_up(r, *t),
+            (Rec::Target(r), Next(_, m)) => ssp_write_receive_next_frame(r, o, *m),
+            (Rec::Target(r), Ack) => ssp_write_receive_ack(r),
+            (Rec::Target(r), Nak) => ssp_write_receive_nak(r),
+            (Rec::Target(r), Timeout) => ssp_write_receive_timeout(r),
+            (Rec::Target(r), Cut) => ssp_write_receive_cut(r),
+            (Rec::Target(r), Loss) => ssp_write_receive_nexus_loss(r),
+            (Rec::Target(r), Frame(_, n)) => ssp_write_receive_frame(r, b, len, d, *n),
+            (Rec::Responder(r), SetUp(t, n)) => ssp_response_set_up(r, *t, *n),
+            (Rec::Responder(r), Next(n, m)) => ssp_response_next_frame(r, d, *n, o, *m),
+            (Rec::Responder(r), Ack) => ssp_response_ack(r),
+            (Rec::Responder(r), Nak) => ssp_response_nak(r),
+            (Rec::Responder(r), Timeout) => ssp_response_timeout(r),
+            (Rec::Responder(r), Cut) => ssp_response_cut(r),
+            (Rec::Responder(r), Loss) => ssp_response_nexus_loss(r),
+            (Rec::Responder(_), Frame(..)) => return None,
+        }
+    })
+}
+
+#[derive(Clone)]
+pub struct Pair {
+    pub rec: [Rec; 2],
+    pub data: [Vec<u8>; 2],
+    pub out: [Vec<u8>; 2],
+}
+
+impl Pair {
+    pub fn new(rec: Rec, data: Vec<u8>, out: usize) -> Pair {
+        let out = vec![0xa5; out];
+        Pair { rec: [rec, rec], data: [data.clone(), data], out: [out.clone(), out] }
+    }
+
+    /// The call at both sides; the port's answer, or what differs. None where the record has no such entry point.
+    pub fn call(&mut self, call: &Call) -> Result<Option<Answer>, String> {
+        let before = self.rec[0];
+        let [d0, d1] = &mut self.data;
+        let [o0, o1] = &mut self.out;
+        let a = port(&mut self.rec[0], call, d0, o0);
+        let bytes: &[u8] = if let Call::Frame(bytes, _) = call { bytes } else { &[] };
+        let mut sent = bytes.to_vec();
+        let b = lib(&mut self.rec[1], call, &mut sent, d1, o1);
+        let kept = sent == bytes;
+        let alike = kept && a == b && self.rec[0] == self.rec[1] && self.data[0] == self.data[1] && self.out[0] == self.out[1];
+        if alike {
+            if let Some(a) = &a {
+                seen(&before, a);
+            }
+            return Ok(a);
+        }
+        let mut s = format!("{call:?}\n  before  {before:?}\n  port    {a:?}\n  library {b:?}");
+        if self.rec[0] != self.rec[1] {
+            s += &format!("\n  port    {:?}\n  library {:?}", self.rec[0], self.rec[1]);
+        }
+        if !kept {
+            s += "\n  the library changed the bytes that arrived";
+        }
+        if self.data[0] != self.data[1] {
+            s += "\n  data buffers differ";
+        }
+        if self.out[0] != self.out[1] {
+            let n = self.out[0].len().min(40);
+            s += &format!("\n  output differs\n  port    {:02x?}\n  library {:02x?}", &self.out[0][..n], &self.out[1][..n]);
+        }
+        Err(s)
+    }
+}

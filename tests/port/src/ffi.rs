@@ -1,0 +1,49 @@
+//! The library's functions, as its C header declares them.
+use crate::records::*;
+
+#[rustfmt::skip]
+extern "C" {
+    pub fn ssp_read_send_set_up(s: *mut Sender, t: Transfer) -> Answer;
+    pub fn ssp_read_send_next_frame(s: *mut Sender, data: *const u8, data_len: usize, out: *mut u8, out_len: usize) -> Answer;
+    pub fn ssp_read_send_ack(s: *mut Sender) -> Answer;
+    pub fn ssp_read_send_nak(s: *mut Sender) -> Answer;
+    pub fn ssp_read_send_timeout(s: *mut Sender) -> Answer;
+    pub fn ssp_read_send_cut(s: *mut Sender) -> Answer;
+    pub fn ssp_read_send_nexus_loss(s: *mut Sender) -> Answer;
+    pub fn ssp_read_send_frame(s: *mut Sender, bytes: *const u8, bytes_len: usize) -> Answer;
+
+    pub fn ssp_read_receive_set_up(r: *mut Receiver, t: Transfer) -> Answer;
+    pub fn ssp_read_receive_frame(r: *mut Receiver, bytes: *const u8, bytes_len: usize, data: *mut u8, data_len: usize) -> Answer;
+    pub fn ssp_read_receive_nexus_loss(r: *mut Receiver) -> Answer;
+
+    pub fn ssp_write_send_set_up(w: *mut Writer, t: Transfer) -> Answer;
+    pub fn ssp_write_send_next_frame(w: *mut Writer, data: *const u8, data_len: usize, out: *mut u8, out_len: usize) -> Answer;
+    pub fn ssp_write_send_ack(w: *mut Writer) -> Answer;
+    pub fn ssp_write_send_nak(w: *mut Writer) -> Answer;
+    pub fn ssp_write_send_timeout(w: *mut Writer) -> Answer;
+    pub fn ssp_write_send_cut(w: *mut Writer) -> Answer;
+    pub fn ssp_write_send_nexus_loss(w: *mut Writer) -> Answer;
+    pub fn ssp_write_send_frame(w: *mut Writer, bytes: *const u8, bytes_len: usize) -> Answer;
+
+    pub fn ssp_write_receive_set_up(t: *mut Target, transfer: Transfer) -> Answer;
+    pub fn ssp_write_receive_next_frame(t: *mut Target, out: *mut u8, out_len: usize) -> Answer;
+    pub fn ssp_write_receive_ack(t: *mut Target) -> Answer;
+    pub fn ssp_write_receive_nak(t: *mut Target) -> Answer;
+    pub fn ssp_write_receive_timeout(t: *mut Target) -> Answer;
+    pub fn ssp_write_receive_cut(t: *mut Target) -> Answer;
+    pub fn ssp_write_receive_nexus_loss(t: *mut Target) -> Answer;
+    pub fn ssp_write_receive_frame(t: *mut Target, bytes: *const u8, bytes_len: usize, data: *mut u8, data_len: usize) -> Answer;
+
+    pub fn ssp_response_set_up(r: *mut Responder, t: Transfer, len: usize) -> Answer;
+    pub fn ssp_response_next_frame(r: *mut Responder, iu: *const u8, iu_len: usize, out: *mut u8, out_len: usize) -> Answer;
+    pub fn ssp_response_ack(r: *mut Responder) -> Answer;
+    pub fn ssp_response_nak(r: *mut Responder) -> Answer;
+    pub fn ssp_response_timeout(r: *mut Responder) -> Answer;
+    pub fn ssp_response_cut(r: *mut Responder) -> Answer;
+    pub fn ssp_response_nexus_loss(r: *mut Responder) -> Answer;
+
+    pub fn ssp_frame_write(h: Header, iu: *const u8, iu_len: usize, out: *mut u8, out_len: usize) -> Answer;
+    pub fn ssp_frame_read(h: *mut Header, bytes: *const u8, bytes_len: usize) -> Answer;
+    pub fn ssp_xfer_rdy_write(x: XferRdy, out: *mut u8, out_len: usize) -> Answer;
+    pub fn ssp_xfer_rdy_read(x: *mut XferRdy, iu: *const u8, iu_len: usize) -> Answer;
+}

@@ -1,0 +1,118 @@
+//! The frame and the IU of an XFER_RDY: reader and writer.
+use crate::records::*;
+
+pub const DATA: u8 = 0x01;
+pub const XFER_RDY: u8 = 0x05;
+pub const COMMAND: u8 = 0x06;
+pub const RESPONSE_TYPE: u8 = 0x07;
+pub const TASK: u8 = 0x16;
+
+fn known(kind: u8) -> bool {
+    [DATA, XFER_RDY, COMMAND, RESPONSE_TYPE, TASK].contains(&kind)
+}
+
+fn number(bytes: &[u8]) -> u32 {
+    bytes.iter().fold(0, |n, b| n << 8 | u32::from(*b))
+}
+
+/// 5, without a look at the type: where the IU ends.
+pub fn shape(bytes: &[u8]) -> Result<usize, u8> {
+    if bytes.len() < 24 || bytes.len() > 1048 || bytes.len() % 4 != 0 {
+        return Err(5);
+    }
+    let fill = usize::from(bytes[11] & 3);
+    if fill > bytes.len() - 24 {
+        return Err(5);
+    }
+    Ok(bytes.len() - fill)
+}
+
+pub fn header_of(bytes: &[u8]) -> Header {
+    Header {
+        kind: bytes[0],
+        dest: number(&bytes[1..4]),
+        source: number(&bytes[5..8]),
+        retry: bytes[10] & 4 != 0,
+        retransmit: bytes[10] & 2 != 0,
+        cdp: bytes[10] & 1 != 0,
+        tag: number(&bytes[16..18]) as u16,
+        tptt: number(&bytes[18..20]) as u16,
+        offset: number(&bytes[20..24]),
+    }
+}
+
+pub fn read(header: &mut Header, bytes: &[u8]) -> Answer {
+    let end = match shape(bytes) {
+        Ok(end) => end,
+        Err(n) => return Answer::refused(n),
+    };
+    if !known(bytes[0]) {
+        return Answer::refused(6);
+    }
+    *header = header_of(bytes);
+    Answer { what: PARSED, start: 24, len: end - 24, ..Answer::default() }
+}
+
+/// Bytes of a frame with an IU of so many bytes.
+pub fn room(iu: usize) -> usize {
+    24 + iu.div_ceil(4) * 4
+}
+
+pub fn write(header: &Header, iu: &[u8], out: &mut [u8]) -> Answer {
+    if !known(header.kind) || header.dest >= 1 << 24 || header.source >= 1 << 24 || iu.len() > 1024 {
+        return Answer::refused(1);
+    }
+    let len = room(iu.len());
+    if out.len() < len {
+        return Answer::refused(3);
+    }
+    let out = &mut out[..len];
+    out.fill(0);
+    out[0] = header.kind;
+    out[1..4].copy_from_slice(&header.dest.to_be_bytes()[1..]);
+    out[5..8].copy_from_slice(&header.source.to_be_bytes()[1..]);
+    out[10] = u8::from(header.retry) * 4 + u8::from(header.retransmit) * 2 + u8::from(header.cdp);
+    out[11] = (len - 24 - iu.len()) as u8;
+    out[16..18].copy_from_slice(&header.tag.to_be_bytes());
+    out[18..20].copy_from_slice(&header.tptt.to_be_bytes());
+    out[20..24].copy_from_slice(&header.offset.to_be_bytes());
+    out[24..24 + iu.len()].copy_from_slice(iu);
+    Answer::length(len)
+}
+
+pub fn xfer_rdy_write(xfer_rdy: &XferRdy, out: &mut [u8]) -> Answer {
+    if out.len() < 12 {
+        return Answer::refused(3);
+    }
+    out[0..4].copy_from_slice(&xfer_rdy.offset.to_be_bytes());
+    out[4..8].copy_from_slice(&xfer_rdy.len.to_be_bytes());
+    out[8..12].fill(0);
+    Answer::length(12)
+}
+
+pub fn xfer_rdy_read(xfer_rdy: &mut XferRdy, iu: &[u8]) -> Answer {
+    if iu.len() < 12 {
+        return Answer::failed(23, 0);
+    }
+    if iu.len() > 12 {
+        return Answer::failed(24, 0);
+    }
+    *xfer_rdy = XferRdy { offset: number(&iu[..4]), len: number(&iu[4..8]) };
+    Answer { what: PARSED, len: 12, ..Answer::default() }
+}
+
+/// 5, 6, 7, 8 of an arrival; `takes` says which types the role takes. Header and IU.
+pub fn arrive<'a>(transfer: &Transfer, bytes: &'a [u8], takes: &[u8]) -> Result<(Header, &'a [u8]), u8> {
+    let end = shape(bytes)?;
+    let header = header_of(bytes);
+    if !takes.contains(&header.kind) {
+        return Err(6);
+    }
+    if header.dest != transfer.local || header.source != transfer.remote {
+        return Err(7);
+    }
+    if header.tag != transfer.tag {
+        return Err(8);
+    }
+    Ok((header, &bytes[24..end]))
+}
