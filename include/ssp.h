@@ -120,7 +120,6 @@ typedef struct ssp_answer {
 
 /* What both ports of a command are set up with; it never changes. At the other end local and remote are the other way round. */
 typedef struct ssp_transfer {
-    bool write;      /* a write command; else a read */
     uint32_t count;  /* byte count, 1 to 16,777,216 */
     uint32_t size;   /* data bytes per frame, a multiple of four, 4 to 1,024 */
     uint32_t window; /* unanswered frames at most, 1 to 64 */
@@ -129,14 +128,15 @@ typedef struct ssp_transfer {
     uint32_t local;  /* hashed address of this port, 24 bits */
     uint32_t remote; /* hashed address of the other port, 24 bits */
     uint16_t tag;
+    bool write; /* a write command; else a read */
 } ssp_transfer;
 
 /* What one XFER_RDY asks for, or a whole read. */
 typedef struct ssp_burst {
     uint32_t base;
     uint32_t end;
-    uint16_t tptt;  /* target port transfer tag of the XFER_RDY; read DATA has zero whatever stands here */
     uint32_t limit; /* the retry limit in force */
+    uint16_t tptt;  /* target port transfer tag of the XFER_RDY; read DATA has zero whatever stands here */
 } ssp_burst;
 
 /* The sending port. */
@@ -148,9 +148,9 @@ typedef struct ssp_sender {
     uint32_t unanswered; /* frames handed out and not answered */
     bool nak;            /* a NAK is pending */
     bool cdp;            /* the next frame has CHANGING DATA POINTER one */
-    uint32_t retries;
-    uint64_t frames; /* frames handed out since set-up, or since the write burst began */
     bool ended;
+    uint64_t frames; /* frames handed out since set-up, or since the write burst began */
+    uint32_t retries;
 } ssp_sender;
 
 /* The receiving port. */
@@ -175,20 +175,20 @@ typedef struct ssp_writer {
 /* The target in a write command. */
 typedef struct ssp_target {
     ssp_receiver receiver; /* the burst of the last XFER_RDY handed out; before the first, an empty one at 0 */
-    uint8_t state;         /* the XFER_RDY's state, one of enum ssp_state */
+    uint32_t retries;      /* of the XFER_RDY */
     uint16_t tptt;         /* its target port transfer tag */
-    uint32_t retries;
-    bool stored;    /* DATA was stored, last under the tag `under` */
-    uint16_t under;
-    uint16_t since; /* tags handed out since */
+    uint16_t under;        /* the tag under which DATA was last stored */
+    uint16_t since;        /* tags handed out since */
+    uint8_t state;         /* the XFER_RDY's state, one of enum ssp_state */
+    bool stored;           /* DATA was stored, last under the tag `under` */
 } ssp_target;
 
 /* RESPONSE at the target. */
 typedef struct ssp_responder {
     ssp_transfer transfer;
     uint32_t len;    /* the length of the IU that it was set up with */
-    bool unanswered; /* its answer is due */
     uint32_t retries;
+    bool unanswered; /* its answer is due */
     bool ended;
 } ssp_responder;
 
@@ -377,65 +377,65 @@ SSP_AT(ssp_answer, frames, 8);
 SSP_AT(ssp_answer, start, 16);
 SSP_AT(ssp_answer, len, 24);
 
-SSP_SIZE(ssp_transfer, 36);
-SSP_AT(ssp_transfer, write, 0);
-SSP_AT(ssp_transfer, count, 4);
-SSP_AT(ssp_transfer, size, 8);
-SSP_AT(ssp_transfer, window, 12);
-SSP_AT(ssp_transfer, limit, 16);
-SSP_AT(ssp_transfer, burst, 20);
-SSP_AT(ssp_transfer, local, 24);
-SSP_AT(ssp_transfer, remote, 28);
-SSP_AT(ssp_transfer, tag, 32);
+SSP_SIZE(ssp_transfer, 32);
+SSP_AT(ssp_transfer, count, 0);
+SSP_AT(ssp_transfer, size, 4);
+SSP_AT(ssp_transfer, window, 8);
+SSP_AT(ssp_transfer, limit, 12);
+SSP_AT(ssp_transfer, burst, 16);
+SSP_AT(ssp_transfer, local, 20);
+SSP_AT(ssp_transfer, remote, 24);
+SSP_AT(ssp_transfer, tag, 28);
+SSP_AT(ssp_transfer, write, 30);
 
 SSP_SIZE(ssp_burst, 16);
 SSP_AT(ssp_burst, base, 0);
 SSP_AT(ssp_burst, end, 4);
-SSP_AT(ssp_burst, tptt, 8);
-SSP_AT(ssp_burst, limit, 12);
+SSP_AT(ssp_burst, limit, 8);
+SSP_AT(ssp_burst, tptt, 12);
 
-SSP_SIZE(ssp_sender, 88);
+SSP_SIZE(ssp_sender, 80);
 SSP_AT(ssp_sender, transfer, 0);
-SSP_AT(ssp_sender, burst, 36);
-SSP_AT(ssp_sender, next, 52);
-SSP_AT(ssp_sender, balance, 56);
-SSP_AT(ssp_sender, unanswered, 60);
-SSP_AT(ssp_sender, nak, 64);
-SSP_AT(ssp_sender, cdp, 65);
-SSP_AT(ssp_sender, retries, 68);
-SSP_AT(ssp_sender, frames, 72);
-SSP_AT(ssp_sender, ended, 80);
+SSP_AT(ssp_sender, burst, 32);
+SSP_AT(ssp_sender, next, 48);
+SSP_AT(ssp_sender, balance, 52);
+SSP_AT(ssp_sender, unanswered, 56);
+SSP_AT(ssp_sender, nak, 60);
+SSP_AT(ssp_sender, cdp, 61);
+SSP_AT(ssp_sender, ended, 62);
+SSP_AT(ssp_sender, frames, 64);
+SSP_AT(ssp_sender, retries, 72);
 
-SSP_SIZE(ssp_receiver, 56);
+SSP_SIZE(ssp_receiver, 52);
 SSP_AT(ssp_receiver, transfer, 0);
-SSP_AT(ssp_receiver, base, 36);
-SSP_AT(ssp_receiver, end, 40);
-SSP_AT(ssp_receiver, expected, 44);
-SSP_AT(ssp_receiver, filled, 48);
-SSP_AT(ssp_receiver, waiting, 52);
-SSP_AT(ssp_receiver, ended, 53);
+SSP_AT(ssp_receiver, base, 32);
+SSP_AT(ssp_receiver, end, 36);
+SSP_AT(ssp_receiver, expected, 40);
+SSP_AT(ssp_receiver, filled, 44);
+SSP_AT(ssp_receiver, waiting, 48);
+SSP_AT(ssp_receiver, ended, 49);
 
-SSP_SIZE(ssp_writer, 112);
+SSP_SIZE(ssp_writer, 104);
 SSP_AT(ssp_writer, sender, 0);
-SSP_AT(ssp_writer, reached, 88);
-SSP_AT(ssp_writer, pending, 92);
-SSP_AT(ssp_writer, taken, 96);
+SSP_AT(ssp_writer, reached, 80);
+SSP_AT(ssp_writer, pending, 84);
+SSP_AT(ssp_writer, taken, 88);
 
-SSP_SIZE(ssp_target, 72);
+SSP_SIZE(ssp_target, 64);
 SSP_AT(ssp_target, receiver, 0);
-SSP_AT(ssp_target, state, 56);
-SSP_AT(ssp_target, tptt, 58);
-SSP_AT(ssp_target, retries, 60);
-SSP_AT(ssp_target, stored, 64);
-SSP_AT(ssp_target, under, 66);
-SSP_AT(ssp_target, since, 68);
+SSP_AT(ssp_target, retries, 52);
+SSP_AT(ssp_target, tptt, 56);
+SSP_AT(ssp_target, under, 58);
+SSP_AT(ssp_target, since, 60);
+SSP_AT(ssp_target, state, 62);
+SSP_AT(ssp_target, stored, 63);
 
-SSP_SIZE(ssp_responder, 52);
+SSP_SIZE(ssp_responder, 44);
 SSP_AT(ssp_responder, transfer, 0);
-SSP_AT(ssp_responder, len, 36);
+SSP_AT(ssp_responder, len, 32);
+SSP_AT(ssp_responder, retries, 36);
 SSP_AT(ssp_responder, unanswered, 40);
-SSP_AT(ssp_responder, retries, 44);
-SSP_AT(ssp_responder, ended, 48);
+SSP_AT(ssp_responder, ended, 41);
 
 SSP_SIZE(ssp_header, 24);
 SSP_AT(ssp_header, kind, 0);

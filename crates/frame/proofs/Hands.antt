@@ -9,20 +9,20 @@ use Rattle.status.specs.Pick.{pick}
 use Rattle.status.specs.Answer.{Said, Left, _saying_}
 use Rattle.status.specs.Outcome.{Outcome}
 use Rattle.frame.specs.Format.{encode}
-use Rattle.frame.specs.Write.{writable, writeAnswer, put, handing, hands}
+use Rattle.frame.specs.Write.{writable, writeAnswer, answered, put, handing, hands}
 use Rattle.frame.specs.declared.types.Header.{Header}
 
--- what a port x makes of the writer's answer, y being x with the frame handed out
-abbrev pub answered : {X : Type 0} → X → X → Outcome ℕ → Left X
-answered x y (Outcome.value n) = y saying Said.frame n
-answered x y (Outcome.number n) = x saying Said.refused n
+-- the writer leaves what the port says that it left
+put-handing : {X : Type 0} (x y : X) (f out : List ℕ) (a : Outcome ℕ) → put a f out ≡ handing (answered x y a .says) f out
+put-handing x y f out (Outcome.value n) = refl
+put-handing x y f out (Outcome.number n) = refl
+
+-- the code's answer z and what it left, for a header and an IU that equal the frame's
+pub wrote : {X : Type 0} (x y : X) (h : Header) (iu out : List ℕ) {z : Left X} {g : Header} {j : List ℕ} {a : Outcome ℕ} {left : List ℕ} → z ≡ answered x y a → g ≡ h → j ≡ iu → (a ≡ writeAnswer g j out) × (left ≡ put (writeAnswer g j out) (encode g j) out) → (z ≡ answered x y (writeAnswer h iu out)) × (left ≡ handing (answered x y (writeAnswer h iu out) .says) (encode h iu) out)
+wrote x y h iu out ez eg ej p = let v = rw (eg, ej) at p in (ez ∙ ap (answered x y) (v .0), v .1 ∙ put-handing x y (encode h iu) out (writeAnswer h iu out))
 
 module _ {X : Type 0} (x y : X) (h : Header) (iu out : List ℕ) (w : writable h (length iu) ≡ true) where
-  put-handing : (a : Outcome ℕ) → put a (encode h iu) out ≡ handing (answered x y a .says) (encode h iu) out
-  put-handing (Outcome.value n) = refl
-  put-handing (Outcome.number n) = refl
-
-  hands-answered : hands x y (encode h iu) out ≡ answered x y (writeAnswer h iu out)
+  pub hands-answered : hands x y (encode h iu) out ≡ answered x y (writeAnswer h iu out)
   unfolding hands pick
   hands-answered = rw w (go (leb (length (encode h iu)) (length out)))
     where
@@ -30,9 +30,9 @@ module _ {X : Type 0} (x y : X) (h : Header) (iu out : List ℕ) (w : writable h
       go true = refl
       go false = refl
 
-  -- the code's answer z and what it left, for a header and an IU that equal the frame's
+  -- the same where the writer takes header and IU: it refuses only with 3
   pub handed : {z : Left X} {g : Header} {j : List ℕ} {a : Outcome ℕ} {left : List ℕ} → z ≡ answered x y a → g ≡ h → j ≡ iu → (a ≡ writeAnswer g j out) × (left ≡ put (writeAnswer g j out) (encode g j) out) → (z ≡ hands x y (encode h iu) out) × (left ≡ handing (hands x y (encode h iu) out .says) (encode h iu) out)
-  handed ez eg ej p = let v = rw (eg, ej) at p in rw hands-answered (ez ∙ ap (answered x y) (v .0), v .1 ∙ put-handing (writeAnswer h iu out))
+  handed ez eg ej p = rw hands-answered (wrote x y h iu out ez eg ej p)
 
 -- a result z that is the definition's d, both being y, and that left the output buffer so
 pub told : {X : Type 0} {d y z : Left X} {left : List ℕ} (f out : List ℕ) → d ≡ y → z ≡ y → left ≡ handing (y .says) f out → (z ≡ d) × (left ≡ handing (d .says) f out)

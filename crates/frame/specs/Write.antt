@@ -32,6 +32,11 @@ writeAnswer h iu out =
     (pick (leb (length (encode h iu)) (length out)) (Outcome.value (length (encode h iu))) (Outcome.number 3))
     (Outcome.number 1)
 
+-- what a port x makes of the writer's answer, y being x with the frame handed out
+abbrev pub answered : {X : Type 0} → X → X → Outcome ℕ → Left X
+answered x y (Outcome.value n) = y saying Said.frame n
+answered x y (Outcome.number n) = x saying Said.refused n
+
 -- f at the front of d; "output bytes beyond the frame stay unchanged"
 unfoldable pub over : List ℕ → List ℕ → List ℕ
 over f d = f ++ drop (length f) d

@@ -4,6 +4,7 @@ pub mod WriteHeld
 pub mod WriteFits
 pub mod WriteViews
 pub mod WriteCounts
+pub mod WriteSteps
 pub mod WriteTold
 pub mod WriteSame
 pub mod WriteEnded

@@ -21,8 +21,9 @@ use Rattle.arrival.specs.declared.Kind.{Kind}
 use Rattle.arrival.specs.declared.Arrived.{Arrived}
 use Rattle.arrival.proofs.Passed.{Passed, passed, part, part-length}
 use Rattle.receiver.specs.Record.{holdsOf}
-use Rattle.receiver.specs.DataFrame.{lentOf, arrivalOf, storing}
+use Rattle.receiver.specs.DataFrame.{lentOf, arrivalOf, dataStepOf, storing}
 use Rattle.receiver.specs.declared.types.Receiver.{Receiver}
+use Rattle.receiver.proofs.Views.{step-is}
 use Rattle.initiator.specs.Read.{readTests, readHoldsOf, readLentOf, rejectedBy, notExpectedOf, responseOf, takenOf, readArrivalOf}
 
 -- a read's record, with or without its buffer
@@ -51,8 +52,9 @@ taken-is r f d a {z = z} e q t =
     told (headerIn f .offset) (iuOf f) d q (t .0) (t .1 ∙ s)
 
 -- DATA: what the receiving port answered to that part
-pub data-is : (r : Receiver) (a : Arrived) (f d : List ℕ) {x : Left Receiver} {left : List ℕ} → a .start + a .len ≤ length f → let iu = take ((a .start + a .len) - a .start) (drop (a .start) f) in (x ≡ arrivalOf r (a .header .offset) (a .header .flags .cdp) (length iu) (length d)) × (left ≡ storing (arrivalOf r (a .header .offset) (a .header .flags .cdp) (length iu) (length d) .says) (a .header .offset) iu d) → let z = takenOf Kind.Data r a f (length d) in (x ≡ z) × (left ≡ storing (z .says) (a .header .offset) (take (a .len) (drop (a .start) f)) d)
-data-is r a f d s e = rw (part-length (a .start) (a .len) f s, part (a .start) (a .len) f) at e
+pub data-is : (r : Receiver) (a : Arrived) (f d : List ℕ) {x : Left Receiver} {left : List ℕ} → (a .start + a .len ≤ length f) × (lentOf r (length d) ≡ true) × (r .ended ≡ false) → let iu = take ((a .start + a .len) - a .start) (drop (a .start) f) in (x ≡ dataStepOf r (a .header .offset) (a .header .flags .cdp) (length iu) (length d)) × (left ≡ storing (dataStepOf r (a .header .offset) (a .header .flags .cdp) (length iu) (length d) .says) (a .header .offset) iu d) → let z = takenOf Kind.Data r a f (length d) in (x ≡ z) × (left ≡ storing (z .says) (a .header .offset) (take (a .len) (drop (a .start) f)) d)
+data-is r a f d s e =
+    rw (step-is r (a .header .offset) (a .header .flags .cdp) (a .len) (length d) (s .1) (s .2)) (rw (part-length (a .start) (a .len) f (s .0), part (a .start) (a .len) f) at e)
 
 -- only DATA changes the buffer
 pub not-expected-leaves : (r : Receiver) (x : List ℕ) (offset : ℕ) (iu d : List ℕ) → d ≡ storing (notExpectedOf r x .says) offset iu d

@@ -1,12 +1,13 @@
 // A read command at the initiator: arrivals at the receiving end of the transfer.
 ghost use mathlib.Core.Path.{_≡_};
+ghost use mathlib.Core.Bool.{true, false};
 ghost use Prim.Native.Nat.{_+_, _≤_};
 ghost use lib.ListN.{length, take, drop};
 ghost use Rattle.status.specs.Number.{refusalNumber, failureNumber};
 ghost use Rattle.status.specs.Answer.{Said, _saying_};
 ghost use Rattle.frame.specs.Read.{headerIn, iuOf};
 ghost use Rattle.receiver.specs.Record.{stepped, failedOf};
-ghost use Rattle.receiver.specs.DataFrame.{storing};
+ghost use Rattle.receiver.specs.DataFrame.{lentOf, storing};
 ghost use Rattle.initiator.specs.Read.{notExpectedOf, responseOf, takenOf, readArrivalOf, readLossOf};
 use arrival::Accepted;
 use arrival::Arrived;
@@ -69,9 +70,9 @@ fn response(mut r: Receiver, start: usize, len: usize) -> Stepped
     }
 }
 
-// A frame that has passed 5 to 8.
+// Behind 1 and 2, a frame that has passed 5 to 8.
 fn take(r: Receiver, a: Arrived, bytes: &[u8], buffer: &mut [u8]) -> Stepped
-    requires { ⌜ a .start + a .len ≤ length (now bytes) ⌝ }
+    requires { ⌜ (a .start + a .len ≤ length (now bytes)) × (lentOf r (length (now buffer)) ≡ true) × (r .ended ≡ false) ⌝ }
     ensures { λ x. ⌜ (stepped x ≡ takenOf (a .kind) r a (now (bytes .entry)) (length (now (buffer .entry)))) × (now (buffer .exit) ≡ storing (takenOf (a .kind) r a (now (bytes .entry)) (length (now (buffer .entry))) .says) (a .header .offset) (take (a .len) (drop (a .start) (now (bytes .entry)))) (now (buffer .entry))) ⌝ }
 {
     let kind = a.kind;
@@ -82,7 +83,7 @@ fn take(r: Receiver, a: Arrived, bytes: &[u8], buffer: &mut [u8]) -> Stepped
     match kind {
         Kind::Data => {
             let flags = h.flags;
-            receiver::data_received(r, h.offset, flags.cdp, iu, buffer)
+            receiver::data_step(r, h.offset, flags.cdp, iu, buffer)
         }
         Kind::XferRdy => not_expected(r, iu),
         Kind::Response => response(r, start, a.len),

@@ -1,10 +1,11 @@
 // A write command's frames asked for, and the answers to them, over the sending port.
 ghost use mathlib.Core.Path.{_≡_};
 ghost use mathlib.Core.List.{[]};
-ghost use Prim.Native.Nat.{_-_, max};
+ghost use Prim.Native.Nat.{max};
 ghost use Rattle.frame.specs.Write.{handing};
 ghost use Rattle.sender.specs.Record as sender;
 ghost use Rattle.sender.specs.Transmit.{frameOf};
+ghost use Rattle.sender.specs.Step.{frameStepOf};
 ghost use Rattle.initiator.specs.WriteRecord.{startsOf, stepped};
 ghost use Rattle.initiator.specs.WriteCount.{Counts};
 ghost use Rattle.initiator.specs.WriteSend.{liftedOf, reachedOf, lentOf, heldUp, begunOf, keptOf, nextOf, countedOf, answeredOf, ackOf, nakOf, timeoutOf, cutOf, lossOf};
@@ -89,11 +90,13 @@ fn start(w: Writer) -> Writer
     write_record::begin(t, b)
 }
 
-// The record that serves a frame.
-fn begun(w: Writer) -> Writer
-    ensures { λ r. ⌜ r ≡ begunOf w ⌝ }
+// The burst that was taken starts with its first frame.
+fn first(w: Writer, buffer: &[u8], out: &mut [u8]) -> WriteStepped
+    ensures { λ r. ⌜ (stepped r ≡ keptOf w (reachedOf (startsOf w) (frameStepOf (startsOf w .sender) (now (buffer .entry)) (now (out .entry))))) × (now (out .exit) ≡ handing (frameStepOf (startsOf w .sender) (now (buffer .entry)) (now (out .entry)) .says) (frameOf (startsOf w .sender) (now (buffer .entry))) (now (out .entry))) ⌝ }
 {
-    if w.pending { start(w) } else { w }
+    let v = start(w);
+    let s = v.sender;
+    keep(w, reach(v, sender::frame_step(s, buffer, out)))
 }
 
 // 1, 2; wait (also while a taken burst waits for answers); 3, else a frame of that length.
@@ -111,19 +114,15 @@ pub fn write_next_frame(w: Writer, buffer: &[u8], out: &mut [u8]) -> WriteSteppe
                     answer: Answer::Wait,
                 }
             } else {
-                let v = begun(w);
-                let s = v.sender;
-                keep(w, reach(v, sender::next_frame(s, buffer, out)))
+                if w.pending {
+                    first(w, buffer, out)
+                } else {
+                    let s = w.sender;
+                    reach(w, sender::frame_step(s, buffer, out))
+                }
             }
         }
     }
-}
-
-// One answer less to come.
-fn less_one(n: u32) -> u32
-    ensures { λ r. ⌜ r ≡ n - 1 ⌝ }
-{
-    if n == 0 { 0 } else { n - 1 }
 }
 
 // A taken burst waits: only the count is left, and at zero the burst starts.
@@ -167,9 +166,18 @@ fn answered(w: Writer, step: Stepped, n: u32) -> WriteStepped
 pub fn write_ack_received(w: Writer) -> WriteStepped
     ensures { λ r. ⌜ (stepped r ≡ ackOf w) × Counts w [] (stepped r) ⌝ }
 {
+    let ok = write_record::writer_holds(w);
     let s = w.sender;
-    let n = less_one(s.unanswered);
-    answered(w, sender::ack_received(s), n)
+    match status::answerable(ok, s.ended, s.unanswered != 0) {
+        Entry::Closed(why) => write_record::refused(w, why),
+        Entry::Open => {
+            if held_up(w) {
+                counted(w, sender::less_one(s.unanswered))
+            } else {
+                lift(w, sender::ack_step(s))
+            }
+        }
+    }
 }
 
 // 1, 2, 4; a burst is taken: taken; else taken, retry, or 28.
@@ -177,7 +185,7 @@ pub fn write_nak_received(w: Writer) -> WriteStepped
     ensures { λ r. ⌜ (stepped r ≡ nakOf w) × Counts w [] (stepped r) ⌝ }
 {
     let s = w.sender;
-    let n = less_one(s.unanswered);
+    let n = sender::less_one(s.unanswered);
     answered(w, sender::nak_received(s), n)
 }
 

@@ -50,4 +50,4 @@ storing-length r offset cdp iu d = go (entryOf (lentOf r (length d)) (r .ended))
     go Open Discard p q = refl
     go Open Skip p q = refl
     go Open (Fail w) p q = refl
-    go Open Store p q = rw put-down (placed-length d offset iu (room r offset cdp (length iu) (length d) (opened _ _ p .0) q .0))
+    go Open Store p q = rw put-down (placed-length d offset iu (room r offset cdp (length iu) (length d) (opened _ _ p .0) q))

@@ -104,9 +104,13 @@ module _ (r : Receiver) (offset : ℕ) (cdp : Bool) where
       go false false true p (right w) q s f = empty (eqb-false _ _ p) (eqb-true _ _ s)
       go false false false p (right w) q s f = last (record { unfilled = eqb-false _ _ p; low = w .low; high = ltb-false _ _ q; some = omega (arith, eqb-false n 0 s) }) (f w)
 
--- what is stored fits the data buffer
-pub room : (r : Receiver) (offset : ℕ) (cdp : Bool) (n m : ℕ) → lentOf r m ≡ true → verdictOf r offset cdp n ≡ Store → (offset + n ≤ m) × (m ≤ 16_777_216)
-room r offset cdp n m e v = go (rw v at (judged r offset cdp n))
+-- what is stored lies in the burst
+pub within : (r : Receiver) (offset : ℕ) (cdp : Bool) (n : ℕ) → verdictOf r offset cdp n ≡ Store → offset + n ≤ r .end
+within r offset cdp n v = go (rw v at (judged r offset cdp n))
   where
-    go : Judged r offset cdp n Store → (offset + n ≤ m) × (m ≤ 16_777_216)
-    go (stored i s) = let l = lent r m e in omega (arith, held r (l .holds))
+    go : Judged r offset cdp n Store → offset + n ≤ r .end
+    go (stored i s) = i .high
+
+-- and fits the data buffer
+pub room : (r : Receiver) (offset : ℕ) (cdp : Bool) (n m : ℕ) → lentOf r m ≡ true → verdictOf r offset cdp n ≡ Store → offset + n ≤ m
+room r offset cdp n m e v = let l = lent r m e in omega (arith, held r (l .holds), within r offset cdp n v)

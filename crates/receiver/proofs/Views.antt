@@ -4,17 +4,19 @@ use mathlib.Core.Bool.{Bool, true, false}
 use mathlib.Core.Path.{_≡_, refl}
 use native.Mathlib.Omega.{arith}
 use lib.Dec.{eqb}
+use borrow.Author.Tests.{le-leb}
 use Rattle.status.specs.Entry.{entryOf}
 use Rattle.status.specs.Pick.{pick}
 use Rattle.status.specs.Answer.{Word, Said, Left, _saying_}
+use Rattle.status.proofs.Choose.{in-true}
 use Rattle.status.proofs.Opened.{open-entry, ended-entry}
 use Rattle.status.proofs.Leaves.{Leaves, leaves-unless, picked, After}
 use Rattle.receiver.specs.Record.{holdsOf, failedOf, lossOf}
-use Rattle.receiver.specs.DataFrame.{lentOf, verdictOf, waitingOf, storedOf, storedBy, takenOf, arrivalOf}
+use Rattle.receiver.specs.DataFrame.{lentOf, verdictOf, waitingOf, storedOf, storedBy, takenOf, arrivalOf, dataStepOf}
 use Rattle.receiver.specs.declared.types.Receiver.{Receiver}
 use Rattle.receiver.specs.declared.types.Verdict.{Verdict}
 use Rattle.receiver.specs.declared.types.Verdict.the-variants.{Discard, Skip, Fail, Store}
-use Rattle.receiver.proofs.Held.{Held}
+use Rattle.receiver.proofs.Held.{Held, held, lent}
 use Rattle.receiver.proofs.Judged.{Misplaced, Inside, OutOfStep, InStep, Judged, judged}
 
 -- a frame at a port that neither 1 nor 2 refuses
@@ -46,6 +48,11 @@ module _ (r : Receiver) (offset : ℕ) (cdp : Bool) (n : ℕ) where
 
   pub judges : Arrived r offset cdp n (takenOf (verdictOf r offset cdp n) r offset n)
   judges = taken (judged r offset cdp n)
+
+  -- at a port that neither 1 nor 2 refuses an arrival is the step behind them
+  pub step-is : (m : ℕ) → lentOf r m ≡ true → r .ended ≡ false → arrivalOf r offset cdp n m ≡ dataStepOf r offset cdp n m
+  unfolding arrivalOf dataStepOf
+  step-is m e f = let l = lent r m e in in-true _ _ _ _ (le-leb (r .end) m (omega (arith, held r (l .holds)))) (rw (open-entry (lentOf r m) (r .ended) e f))
 
   pub arrived : (m : ℕ) → lentOf r m ≡ true → r .ended ≡ false → Arrived r offset cdp n (arrivalOf r offset cdp n m)
   unfolding arrivalOf

@@ -60,6 +60,10 @@ takenOf Store r offset n = storedBy r offset n
 unfoldable pub arrivalOf : Receiver → ℕ → Bool → ℕ → ℕ → Left Receiver
 arrivalOf r offset cdp n m = unless (entryOf (lentOf r m) (r .ended)) r (takenOf (verdictOf r offset cdp n) r offset n)
 
+-- the same behind 1 and 2, for a port that has tested them on a record that holds this one; of number 1 only what the store leans on is left: the burst passes the buffer
+unfoldable pub dataStepOf : Receiver → ℕ → Bool → ℕ → ℕ → Left Receiver
+dataStepOf r offset cdp n m = pick (leb (r .end) m) (takenOf (verdictOf r offset cdp n) r offset n) (r saying Said.refused 1)
+
 -- "Any other frame's data goes to its place in the lent buffer": outside the stored part nothing changes, and nothing where nothing is stored
 abbrev pub storing : Said → ℕ → List ℕ → List ℕ → List ℕ
 storing Said.stored offset iu buffer = placed buffer offset iu

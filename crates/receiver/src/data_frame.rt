@@ -1,11 +1,10 @@
 // One DATA frame that has passed 5 to 8.
 ghost use mathlib.Core.Path.{_≡_};
-ghost use mathlib.Core.Bool.{true};
 ghost use Prim.Native.Nat.{_+_, _^_, _≤_, _<_, max};
 ghost use lib.ListN.{length};
 ghost use Rattle.frame.specs.Write.{placed};
 ghost use Rattle.receiver.specs.Record.{stepped};
-ghost use Rattle.receiver.specs.DataFrame.{lentOf, misplaced, outOfStep, verdictOf, storedBy, takenOf, arrivalOf, storing};
+ghost use Rattle.receiver.specs.DataFrame.{lentOf, misplaced, outOfStep, verdictOf, storedBy, takenOf, arrivalOf, dataStepOf, storing};
 use crate::record;
 use crate::types::Receiver;
 use crate::types::Stepped;
@@ -13,6 +12,7 @@ use crate::types::Verdict;
 use status::Answer;
 use status::Entry;
 use status::Failure;
+use status::Refusal;
 
 // Number 1 does not apply, the data buffer's length included.
 pub fn lent(r: Receiver, n: usize) -> bool
@@ -108,7 +108,7 @@ fn store(offset: usize, iu: &[u8], buffer: &mut [u8])
 
 // The frame is judged, and what the verdict says is done.
 fn take(r: Receiver, offset: u32, cdp: bool, iu: &[u8], buffer: &mut [u8]) -> Stepped
-    requires { ⌜ lentOf r (length (now buffer)) ≡ true ⌝ }
+    requires { ⌜ r .end ≤ length (now buffer) ⌝ }
     ensures { λ x. ⌜ (stepped x ≡ takenOf (verdictOf r offset cdp (length (now (iu .entry)))) r offset (length (now (iu .entry)))) × (now (buffer .exit) ≡ storing (takenOf (verdictOf r offset cdp (length (now (iu .entry)))) r offset (length (now (iu .entry))) .says) offset (now (iu .entry)) (now (buffer .entry))) ⌝ }
 {
     match judge(r, offset, cdp, iu.len()) {
@@ -132,6 +132,16 @@ fn take(r: Receiver, offset: u32, cdp: bool, iu: &[u8], buffer: &mut [u8]) -> St
     }
 }
 
+// For a port that has tested 1 and 2 itself: 1 where the burst passes the buffer; then as `data_received` behind them.
+pub fn data_step(r: Receiver, offset: u32, cdp: bool, iu: &[u8], buffer: &mut [u8]) -> Stepped
+    ensures { λ x. ⌜ (stepped x ≡ dataStepOf r offset cdp (length (now (iu .entry))) (length (now (buffer .entry)))) × (now (buffer .exit) ≡ storing (dataStepOf r offset cdp (length (now (iu .entry))) (length (now (buffer .entry))) .says) offset (now (iu .entry)) (now (buffer .entry))) ⌝ }
+{
+    if buffer.len() < (r.end as usize) {
+        return record::refused(r, Refusal::BadRequest);
+    }
+    take(r, offset, cdp, iu, buffer)
+}
+
 // 1, 2; discarded (filled); 20, 21, 22; discarded, stored or received.
 pub fn data_received(r: Receiver, offset: u32, cdp: bool, iu: &[u8], buffer: &mut [u8]) -> Stepped
     ensures { λ x. ⌜ (stepped x ≡ arrivalOf r offset cdp (length (now (iu .entry))) (length (now (buffer .entry)))) × (now (buffer .exit) ≡ storing (arrivalOf r offset cdp (length (now (iu .entry))) (length (now (buffer .entry))) .says) offset (now (iu .entry)) (now (buffer .entry))) ⌝ }
@@ -139,6 +149,6 @@ pub fn data_received(r: Receiver, offset: u32, cdp: bool, iu: &[u8], buffer: &mu
     let ok = lent(r, buffer.len());
     match status::admit(ok, r.ended) {
         Entry::Closed(why) => record::refused(r, why),
-        Entry::Open => take(r, offset, cdp, iu, buffer),
+        Entry::Open => data_step(r, offset, cdp, iu, buffer),
     }
 }

@@ -4,6 +4,7 @@ mod record;
 mod types;
 
 pub use data_frame::data_received;
+pub use data_frame::data_step;
 pub use data_frame::lent;
 pub use record::begin;
 pub use record::holds;

@@ -8,9 +8,9 @@ pub struct Responder {
     pub transfer: Transfer,
     // the length of the IU that it was set up with
     pub len: u32,
+    pub retries: u32,
     // its answer is due
     pub unanswered: bool,
-    pub retries: u32,
     pub ended: bool,
 }
 

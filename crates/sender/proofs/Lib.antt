@@ -1,6 +1,7 @@
 pub mod Held
 pub mod Due
 pub mod Counting
+pub mod Steps
 pub mod Next
 pub mod Views
 pub mod Kept

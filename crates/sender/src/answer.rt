@@ -1,10 +1,11 @@
 // ACK, NAK, timeout, cut and nexus loss.
 ghost use mathlib.Core.Path.{_≡_};
-ghost use Prim.Native.Nat.{_≤_};
+ghost use Prim.Native.Nat.{_-_};
 ghost use mathlib.Core.List.{[]};
 ghost use Rattle.status.specs.Number.{failureNumber};
 ghost use Rattle.sender.specs.Record.{stepped};
 ghost use Rattle.sender.specs.Count.{Counts};
+ghost use Rattle.sender.specs.Step.{ackStepOf};
 ghost use Rattle.sender.specs.Answer.{loweredOf, failedOf, restartOf, retryOf, movedOf, advanceOf, settleOf, causeOf, answersOf, ackOf, nakOf, timeoutOf, cutOf, lossOf};
 use crate::record;
 use crate::types::Sender;
@@ -13,12 +14,19 @@ use status::Answer;
 use status::Entry;
 use status::Failure;
 
+// One answer less to come; none stays none.
+pub fn less_one(n: u32) -> u32
+    ensures { λ r. ⌜ r ≡ n - 1 ⌝ }
+{
+    if n == 0 { 0 } else { n - 1 }
+}
+
 // One answer less to come, a NAK pending or not.
 fn lowered(mut s: Sender, nak: bool) -> Sender
-    requires { ⌜ 1 ≤ s .unanswered ⌝ }
     ensures { λ r. ⌜ r ≡ loweredOf s nak ⌝ }
 {
-    s.unanswered = s.unanswered - 1;
+    let left = less_one(s.unanswered);
+    s.unanswered = left;
     s.nak = nak;
     s
 }
@@ -129,13 +137,20 @@ fn answerable(s: Sender) -> Entry
     status::answerable(ok, s.ended, s.unanswered != 0)
 }
 
+// An ACK, for a port that has tested 1, 2 and 4 on its own record: taken, delivered, retry, or 28 (a NAK is pending).
+pub fn ack_step(s: Sender) -> Stepped
+    ensures { λ r. ⌜ stepped r ≡ ackStepOf s ⌝ }
+{
+    settle(lowered(s, s.nak))
+}
+
 // 1, 2, 4; taken, delivered, retry, or 28 (a NAK is pending).
 pub fn ack_received(s: Sender) -> Stepped
     ensures { λ r. ⌜ (stepped r ≡ ackOf s) × Counts s [] (stepped r) ⌝ }
 {
     match answerable(s) {
         Entry::Closed(why) => record::refused(s, why),
-        Entry::Open => settle(lowered(s, s.nak)),
+        Entry::Open => ack_step(s),
     }
 }
 

@@ -2,10 +2,11 @@
 ghost use mathlib.Core.Path.{_≡_};
 ghost use mathlib.Core.Bool.{true, false};
 ghost use lib.ListN.{length};
-ghost use Prim.Native.Nat.{_≤_};
+ghost use Prim.Native.Nat.{_^_, _≤_, _<_};
 ghost use Rattle.frame.specs.Write.{handing};
-ghost use Rattle.sender.specs.Record.{holdsOf, stepped};
-ghost use Rattle.sender.specs.Transmit.{lentOf, waitsOf, lesser, dataHeader, frameOf, sentOf, handsOf, nextOf};
+ghost use Rattle.sender.specs.Record.{stepped};
+ghost use Rattle.sender.specs.Transmit.{lentOf, waitsOf, lesser, dataHeader, frameOf, sentOf, nextOf};
+ghost use Rattle.sender.specs.Step.{fitsOf, writesOf, frameStepOf};
 ghost use Rattle.sender.specs.Count.{Counts};
 use crate::record;
 use crate::types::Sender;
@@ -15,6 +16,7 @@ use frame::Header;
 use frame::Written;
 use status::Answer;
 use status::Entry;
+use status::Refusal;
 
 // Number 1 does not apply, the data buffer's length included.
 fn lent(s: Sender, n: usize) -> bool
@@ -75,7 +77,7 @@ fn header(s: Sender) -> Header
 
 // The record once a frame with n data bytes is handed out.
 fn sent(mut s: Sender, n: u32) -> Sender
-    requires { ⌜ (holdsOf s ≡ true) × (n ≡ lesser s) ⌝ }
+    requires { ⌜ (s .next ≤ s .burst .end) × (s .unanswered < s .transfer .window) × (s .frames < 2 ^ 60) × (n ≡ lesser s) ⌝ }
     ensures { λ r. ⌜ r ≡ sentOf s ⌝ }
 {
     s.next = s.next + n;
@@ -85,10 +87,10 @@ fn sent(mut s: Sender, n: u32) -> Sender
     s
 }
 
-// A frame is due: it goes out, or the output buffer is too short.
+// A frame is due: it goes out, or the writer refuses it.
 fn transmit(s: Sender, buffer: &[u8], out: &mut [u8]) -> Stepped
-    requires { ⌜ (lentOf s (length (now buffer)) ≡ true) × (waitsOf s ≡ false) ⌝ }
-    ensures { λ r. ⌜ (stepped r ≡ handsOf s (now (buffer .entry)) (now (out .entry))) × (now (out .exit) ≡ handing (handsOf s (now (buffer .entry)) (now (out .entry)) .says) (frameOf s (now (buffer .entry))) (now (out .entry))) ⌝ }
+    requires { ⌜ (fitsOf s (length (now buffer)) ≡ true) × (waitsOf s ≡ false) ⌝ }
+    ensures { λ r. ⌜ (stepped r ≡ writesOf s (now (buffer .entry)) (now (out .entry))) × (now (out .exit) ≡ handing (writesOf s (now (buffer .entry)) (now (out .entry)) .says) (frameOf s (now (buffer .entry))) (now (out .entry))) ⌝ }
 {
     let n = data_length(s);
     let from = s.next as usize;
@@ -103,6 +105,31 @@ fn transmit(s: Sender, buffer: &[u8], out: &mut [u8]) -> Stepped
     }
 }
 
+// Of number 1 what a frame handed out leans on.
+fn fits(s: Sender, n: usize) -> bool
+    ensures { λ r. ⌜ r ≡ fitsOf s n ⌝ }
+{
+    let b = s.burst;
+    let end = b.end as usize;
+    (s.next <= b.end) & (end <= n) & (s.frames < 0x1000_0000_0000_0000)
+}
+
+// A frame asked for, for a port that has tested 1 and 2 on its own record: wait; 3, else a frame of that length.
+pub fn frame_step(s: Sender, buffer: &[u8], out: &mut [u8]) -> Stepped
+    ensures { λ r. ⌜ (stepped r ≡ frameStepOf s (now (buffer .entry)) (now (out .entry))) × (now (out .exit) ≡ handing (frameStepOf s (now (buffer .entry)) (now (out .entry)) .says) (frameOf s (now (buffer .entry))) (now (out .entry))) ⌝ }
+{
+    if !fits(s, buffer.len()) {
+        return record::refused(s, Refusal::BadRequest);
+    }
+    if waits(s) {
+        return Stepped {
+            sender: s,
+            answer: Answer::Wait,
+        };
+    }
+    transmit(s, buffer, out)
+}
+
 // 1, 2; wait; 3, else a frame of that length.
 pub fn next_frame(s: Sender, buffer: &[u8], out: &mut [u8]) -> Stepped
     ensures { λ r. ⌜ (stepped r ≡ nextOf s (now (buffer .entry)) (now (out .entry))) × (now (out .exit) ≡ handing (nextOf s (now (buffer .entry)) (now (out .entry)) .says) (frameOf s (now (buffer .entry))) (now (out .entry))) × Counts s (frameOf s (now (buffer .entry))) (stepped r) ⌝ }
@@ -110,15 +137,6 @@ pub fn next_frame(s: Sender, buffer: &[u8], out: &mut [u8]) -> Stepped
     let ok = lent(s, buffer.len());
     match status::admit(ok, s.ended) {
         Entry::Closed(why) => record::refused(s, why),
-        Entry::Open => {
-            if waits(s) {
-                Stepped {
-                    sender: s,
-                    answer: Answer::Wait,
-                }
-            } else {
-                transmit(s, buffer, out)
-            }
-        }
+        Entry::Open => frame_step(s, buffer, out),
     }
 }

@@ -8,10 +8,10 @@ use transfer::Transfer;
 pub struct Burst {
     pub base: u32,
     pub end: u32,
-    // the target port transfer tag of the XFER_RDY; read DATA has zero whatever stands here
-    pub tptt: u16,
     // the retry limit in force
     pub limit: u32,
+    // the target port transfer tag of the XFER_RDY; read DATA has zero whatever stands here
+    pub tptt: u16,
 }
 
 #[repr(C)]
@@ -27,10 +27,10 @@ pub struct Sender {
     pub nak: bool,
     // the next frame has CHANGING DATA POINTER one
     pub cdp: bool,
-    pub retries: u32,
+    pub ended: bool,
     // frames handed out since set-up, or since the write burst began
     pub frames: u64,
-    pub ended: bool,
+    pub retries: u32,
 }
 
 // What an event leaves and answers. A refusal leaves the record as it was.

@@ -1,5 +1,6 @@
 // Arrivals of any bytes in a write command: the target takes DATA.
 ghost use mathlib.Core.Path.{_≡_};
+ghost use mathlib.Core.Bool.{true, false};
 ghost use lib.ListN.{length, take, drop};
 ghost use Prim.Native.Nat.{_+_, _≤_};
 ghost use Rattle.frame.specs.Read.{headerIn, iuOf};
@@ -54,9 +55,9 @@ fn is_current(x: Target, h: Header) -> bool
     (x.state != Target::NONE) & (h.tptt == x.tptt)
 }
 
-// DATA that has passed 5 to 7 and the tag: 8 for its transfer tag; discarded until the XFER_RDY's ACK, then the receiving port's.
+// Behind 1 and 2, DATA that has passed 5 to 7 and the tag: 8 for its transfer tag; discarded until the XFER_RDY's ACK, then the receiving port's.
 fn take(x: Target, a: Arrived, bytes: &[u8], buffer: &mut [u8]) -> Stepped
-    requires { ⌜ a .start + a .len ≤ length (now bytes) ⌝ }
+    requires { ⌜ (a .start + a .len ≤ length (now bytes)) × (lentOf x (length (now buffer)) ≡ true) × (x .receiver .ended ≡ false) ⌝ }
     ensures { λ y. ⌜ (stepped y ≡ takenOf x a (length (now (buffer .entry)))) × (now (buffer .exit) ≡ storing (takenOf x a (length (now (buffer .entry))) .says) (a .header .offset) (take (a .len) (drop (a .start) (now (bytes .entry)))) (now (buffer .entry))) ⌝ }
 {
     let h = a.header;
@@ -75,7 +76,7 @@ fn take(x: Target, a: Arrived, bytes: &[u8], buffer: &mut [u8]) -> Stepped
     let r = x.receiver;
     lift(
         x,
-        receiver::data_received(r, h.offset, flags.cdp, &bytes[start..past], buffer),
+        receiver::data_step(r, h.offset, flags.cdp, &bytes[start..past], buffer),
     )
 }
 

@@ -7,16 +7,16 @@ use status::Refusal;
 pub struct Target {
     // the burst of the last XFER_RDY handed out; before the first, an empty one at 0
     pub receiver: Receiver,
-    // the XFER_RDY's state, one of the four below
-    pub state: u8,
-    // its target port transfer tag
-    pub tptt: u16,
+    // of the XFER_RDY: its retries, its target port transfer tag
     pub retries: u32,
+    pub tptt: u16,
     // DATA was stored, last under this tag
-    pub stored: bool,
     pub under: u16,
     // tags handed out since
     pub since: u16,
+    // the XFER_RDY's state, one of the four below
+    pub state: u8,
+    pub stored: bool,
 }
 
 impl Target {

@@ -5,8 +5,6 @@ use status::Refusal;
 
 #[repr(C)]
 pub struct Transfer {
-    // a write command; else a read
-    pub write: bool,
     // byte count
     pub count: u32,
     // data bytes per frame
@@ -21,6 +19,8 @@ pub struct Transfer {
     pub local: u32,
     pub remote: u32,
     pub tag: u16,
+    // a write command; else a read
+    pub write: bool,
 }
 
 pub enum Made {

@@ -48,9 +48,8 @@ impl Answer {
 }
 
 #[repr(C)]
-#[derive(Clone, Copy, PartialEq, Eq, Debug, Default)]
+#[derive(Clone, Copy, PartialEq, Eq, Hash, Debug, Default)]
 pub struct Transfer {
-    pub write: bool,
     pub count: u32,
     pub size: u32,
     pub window: u32,
@@ -59,19 +58,20 @@ pub struct Transfer {
     pub local: u32,
     pub remote: u32,
     pub tag: u16,
+    pub write: bool,
 }
 
 #[repr(C)]
-#[derive(Clone, Copy, PartialEq, Eq, Debug, Default)]
+#[derive(Clone, Copy, PartialEq, Eq, Hash, Debug, Default)]
 pub struct Burst {
     pub base: u32,
     pub end: u32,
-    pub tptt: u16,
     pub limit: u32,
+    pub tptt: u16,
 }
 
 #[repr(C)]
-#[derive(Clone, Copy, PartialEq, Eq, Debug, Default)]
+#[derive(Clone, Copy, PartialEq, Eq, Hash, Debug, Default)]
 pub struct Sender {
     pub transfer: Transfer,
     pub burst: Burst,
@@ -80,13 +80,13 @@ pub struct Sender {
     pub unanswered: u32,
     pub nak: bool,
     pub cdp: bool,
-    pub retries: u32,
-    pub frames: u64,
     pub ended: bool,
+    pub frames: u64,
+    pub retries: u32,
 }
 
 #[repr(C)]
-#[derive(Clone, Copy, PartialEq, Eq, Debug, Default)]
+#[derive(Clone, Copy, PartialEq, Eq, Hash, Debug, Default)]
 pub struct Receiver {
     pub transfer: Transfer,
     pub base: u32,
@@ -98,7 +98,7 @@ pub struct Receiver {
 }
 
 #[repr(C)]
-#[derive(Clone, Copy, PartialEq, Eq, Debug, Default)]
+#[derive(Clone, Copy, PartialEq, Eq, Hash, Debug, Default)]
 pub struct Writer {
     pub sender: Sender,
     pub reached: u32,
@@ -107,24 +107,24 @@ pub struct Writer {
 }
 
 #[repr(C)]
-#[derive(Clone, Copy, PartialEq, Eq, Debug, Default)]
+#[derive(Clone, Copy, PartialEq, Eq, Hash, Debug, Default)]
 pub struct Target {
     pub receiver: Receiver,
-    pub state: u8,
-    pub tptt: u16,
     pub retries: u32,
-    pub stored: bool,
+    pub tptt: u16,
     pub under: u16,
     pub since: u16,
+    pub state: u8,
+    pub stored: bool,
 }
 
 #[repr(C)]
-#[derive(Clone, Copy, PartialEq, Eq, Debug, Default)]
+#[derive(Clone, Copy, PartialEq, Eq, Hash, Debug, Default)]
 pub struct Responder {
     pub transfer: Transfer,
     pub len: u32,
-    pub unanswered: bool,
     pub retries: u32,
+    pub unanswered: bool,
     pub ended: bool,
 }
 

@@ -59,7 +59,8 @@ fn main() {
     let mut sum = 0;
     let mut alike = part("vectors", &mut sum, vectors::all);
     alike &= part("single calls", &mut sum, || single::all(first, singles));
-    alike &= part("lists of events", &mut sum, || tree::all(depth as usize));
+    alike &= part("lists of events", &mut sum, || tree::each(depth as usize));
+    alike &= part("longer lists", &mut sum, || tree::longer(depth as usize));
     alike &= part("runs", &mut sum, || runs(first, n));
     println!("{sum} calls compared");
     answers();

@@ -18,7 +18,7 @@ fn seen(rec: &Rec, a: &Answer) {
     SEEN[i][usize::from(a.what)][usize::from(a.number)].fetch_add(1, Relaxed);
 }
 
-#[derive(Clone, Copy, PartialEq, Eq, Debug)]
+#[derive(Clone, Copy, PartialEq, Eq, Hash, Debug)]
 pub enum Rec {
     Sender(Sender),
     Receiver(Receiver),

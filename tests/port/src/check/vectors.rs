@@ -203,6 +203,27 @@ fn greatest() -> Result<u64, String> {
     Ok(n)
 }
 
+/// 3: "a frame is due, the output buffer is shorter", by one byte; the frame of 4 data bytes takes 28, an XFER_RDY 36, a RESPONSE of 24 bytes 48.
+fn space() -> Result<u64, String> {
+    let mut n = 0;
+    let sending = writer("space, write", 4, 1, 1).and_then(|mut s| s.arrives(ready(0, 4, 4, 0), (NEXT_BURST, 0)).map(|_| s));
+    let read = read_sender("space, read", 4, 1, 1);
+    for (s, room) in [(read, 28), (sending, 28), (target("space, XFER_RDY", 4, 1, 4), 36), (responder("space, RESPONSE", 1), 48)] {
+        let mut s = s?;
+        let lent = s.pair.data[0].len();
+        let before = s.pair.rec[0];
+        for out in [0, 24, room - 1] {
+            s.call(Call::Next(lent, out), (REFUSED, 3))?;
+        }
+        n += s.holds(s.pair.rec[0] == before && s.pair.out[0].iter().all(|b| *b == 0xa5))?;
+        let a = s.call(Call::Next(lent, room), (FRAME, 0))?;
+        n += s.holds(a.len == room && s.pair.out[0][room..].iter().all(|b| *b == 0xa5))?;
+        // none is due any more: "wait" comes first
+        s.call(Call::Next(lent, 0), (WAIT, 0))?;
+    }
+    Ok(n)
+}
+
 pub fn all() -> Result<u64, String> {
-    Ok(rungs()? + greatest()? + super::sources::all()?)
+    Ok(rungs()? + greatest()? + space()? + super::sources::all()? + super::states::all()? + super::bursts::all()? + super::headers::all()?)
 }

@@ -52,21 +52,21 @@ pub const READY_LINK: [Event; 8] = [
 ];
 
 /// Frames and answers on the way, in order.
-#[derive(Clone, Default)]
-struct Way {
-    frames: VecDeque<Vec<u8>>,
-    answers: VecDeque<bool>,
+#[derive(Clone, Default, PartialEq, Hash)]
+pub(super) struct Way {
+    pub(super) frames: VecDeque<Vec<u8>>,
+    pub(super) answers: VecDeque<bool>,
 }
 
 #[derive(Clone)]
 pub struct World {
-    sender: Pair,
-    receiver: Pair,
-    responder: Pair,
-    data: Way,
-    ready: Way,
-    response: Option<Vec<u8>>,
-    old: Vec<Vec<u8>>,
+    pub(super) sender: Pair,
+    pub(super) receiver: Pair,
+    pub(super) responder: Pair,
+    pub(super) data: Way,
+    pub(super) ready: Way,
+    pub(super) response: Option<Vec<u8>>,
+    pub(super) old: Vec<Vec<u8>>,
     pub calls: u64,
 }
 

@@ -1,6 +1,8 @@
 use borrow.Author.Needs.{needs}
 use denote.Ref.{now}
 use mathlib.Core.Path.{refl, sym, ap, _∙_}
+use Rattle.status.proofs.Choose.{and-true}
+use Rattle.status.proofs.Opened.{opened}
 use Rattle.arrival.proofs.Passed.{passed}
 use Rattle.arrival.specs.Accept.{accepted}
 use Rattle.arrival.specs.declared.Role.the-variants.{ReadInitiator}
@@ -13,7 +15,8 @@ take-requires : tie.Need-take-requires
 take-requires c κs =
     let a = (c .before .before .before .before .before .before .before .before .before .before .before .before .before .args) in
     let p = passed (a .r .transfer) ReadInitiator (now (a .bytes)) _ (sym (c .before .before .before .before .accept .ensures) ∙ ap accepted (c .before .before .a .given .1)) in
-    rw (← p .is) (p .inside)
+    let o = opened _ _ (sym (c .before .before .before .before .before .enum-told .given .1) ∙ c .before .before .before .before .before .before .before .admit .ensures) in
+    (rw (← p .is) (p .inside), sym (c .before .before .before .before .before .before .before .before .before .before .lent .ensures) ∙ and-true _ _ (o .0) .0, o .1)
 
 returns : tie.Need-returns
 unfolding readArrivalOf readLentOf

@@ -9,7 +9,7 @@ use Rattle.initiator.proofs.read.take.Tie as tie
 returns : tie.Need-returns
 returns c =
     let a = (c .before .before .before .before .before .before .before .before .before .before .before .before .args) in
-    rw (c .before .before .before .before .before .enum-told .given .1) (data-is (a .r) (a .a) (now (a .bytes)) (now (a .buffer)) (c .before .before .before .before .before .before .before .before .before .before .before .before .pre) (c .before .before .data-received .ensures))
+    rw (c .before .before .before .before .before .enum-told .given .1) (data-is (a .r) (a .a) (now (a .bytes)) (now (a .buffer)) (c .before .before .before .before .before .before .before .before .before .before .before .before .pre) (c .before .before .data-step .ensures))
 
 returns-2 : tie.Need-returns-2
 returns-2 c =

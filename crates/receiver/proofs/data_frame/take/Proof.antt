@@ -5,19 +5,19 @@ use Prim.Native.Nat.{_+_, _≤_}
 use mathlib.Core.Path.{refl, sym, _∙_}
 use denote.Ref.{now}
 use lib.ListN.{length}
-use Rattle.receiver.proofs.Judged.{room}
+use Rattle.receiver.proofs.Judged.{within}
 use Rattle.receiver.proofs.Buffer.{put-down}
 use Rattle.receiver.proofs.data_frame.take.Statement.{statement}
 use Rattle.receiver.proofs.data_frame.take.Tie as tie
 
-inside : (c : tie.After-enum-told3) → let a = c .before .before .before .before .before .args in (a .offset + length (now (a .iu)) ≤ length (now (a .buffer))) × (length (now (a .buffer)) ≤ 16_777_216)
+inside : (c : tie.After-enum-told3) → let a = c .before .before .before .before .before .args in a .offset + length (now (a .iu)) ≤ a .r .end
 inside c =
     let b = c .before .before in
     let s = b .before .before .before in
-    room (s .args .r) (s .args .offset) (s .args .cdp) (length (now (s .args .iu))) (length (now (s .args .buffer))) (s .pre) (sym (b .judge .ensures) ∙ c .enum-told3 .given .1)
+    within (s .args .r) (s .args .offset) (s .args .cdp) (length (now (s .args .iu))) (sym (b .judge .ensures) ∙ c .enum-told3 .given .1)
 
 store-requires : tie.Need-store-requires
-store-requires c κs = inside (c .before) .0
+store-requires c κs = omega (arith, inside (c .before))
 
 cast-stored : tie.Need-cast-stored
 cast-stored c = omega (arith, inside (c .before .before .before .before))

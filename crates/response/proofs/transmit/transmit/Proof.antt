@@ -3,7 +3,8 @@ use mathlib.Core.Path.{refl, sym, ap, _∙_}
 use denote.Ref.{now}
 use Rattle.frame.specs.Write.{written}
 use Rattle.frame.specs.declared.types.Written.{Written}
-use Rattle.frame.proofs.Hands.{answered, handed}
+use Rattle.frame.specs.Write.{answered}
+use Rattle.frame.proofs.Hands.{handed}
 use Rattle.response.specs.Transmit.{responseHeader, frameOf, sentOf}
 use Rattle.response.proofs.Due.{can-write}
 use Rattle.response.proofs.transmit.transmit.Statement.{statement}

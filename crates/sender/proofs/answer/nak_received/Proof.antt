@@ -2,13 +2,9 @@ use borrow.Author.Needs.{needs}
 use mathlib.Core.List.{[]}
 use mathlib.Core.Path.{sym, ap, _∙_}
 use Rattle.sender.specs.Answer.{settleOf}
-use Rattle.sender.proofs.Views.{answers}
 use Rattle.sender.proofs.Counting.{both, nak-counts}
 use Rattle.sender.proofs.answer.nak_received.Statement.{statement}
 use Rattle.sender.proofs.answer.nak_received.Tie as tie
-
-lowered-requires : tie.Need-lowered-requires
-lowered-requires c κs = answers _ (sym (c .enum-told .given .1) ∙ c .before .before .answerable .ensures) .some
 
 returns : tie.Need-returns
 returns c = both (c .before .before .before .before .before .args .s) [] (rw (sym (c .before .before .before .before .answerable .ensures) ∙ c .before .before .why .given .1) (c .refused .ensures)) (nak-counts (c .before .before .before .before .before .args .s))
@@ -20,4 +16,4 @@ returns-2 c =
     (nak-counts (c .before .before .before .before .before .args .s))
 
 pub nak-received-spec : {M : Type 1} → statement M
-nak-received-spec = tie.close (tie.spec (λ c κs. search needs) (λ c. search needs) (λ c κs. search needs) (λ c. search needs) lowered-requires (λ c κs. search needs) returns returns-2)
+nak-received-spec = tie.close (tie.spec (λ c κs. search needs) (λ c. search needs) (λ c κs. search needs) (λ c. search needs) (λ c κs. search needs) (λ c κs. search needs) returns returns-2)

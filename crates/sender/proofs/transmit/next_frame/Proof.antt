@@ -3,14 +3,10 @@ use Rattle.status.proofs.Opened.{entry-is}
 use mathlib.Core.Path.{refl, sym, _∙_}
 use denote.Ref.{now}
 use Rattle.status.proofs.Opened.{opened}
-use Rattle.sender.proofs.Next.{next-closed, next-waits, next-due, told}
+use Rattle.sender.proofs.Steps.{next-step}
+use Rattle.sender.proofs.Next.{next-closed, told}
 use Rattle.sender.proofs.transmit.next_frame.Statement.{statement}
 use Rattle.sender.proofs.transmit.next_frame.Tie as tie
-
-transmit-requires : tie.Need-transmit-requires
-transmit-requires c κs =
-    let o = opened _ _ (sym (c .before .before .before .enum-told .given .1) ∙ c .before .before .before .before .before .admit .ensures) in
-    (sym (c .before .before .before .before .before .before .lent .ensures) ∙ o .0, sym (c .before .before .waits .ensures) ∙ c .before .if1 .left)
 
 returns : tie.Need-returns
 returns c =
@@ -20,18 +16,11 @@ returns c =
 
 returns-2 : tie.Need-returns-2
 returns-2 c =
-    let e = c .before .before .before .before in
-    let a = c .before .before .before .before .before .before .before .before .args in
-    told (a .s) (now (a .buffer)) (now (a .out)) _ _ _
-    (next-waits (a .s) _ _ (entry-is _ (e .before .lent .ensures) (e .admit .ensures) (c .before .before .enum-told .given .1)) (sym (c .before .waits .ensures) ∙ c .if1 .taken)) refl refl
-
-returns-3 : tie.Need-returns-3
-returns-3 c =
-    let e = c .before .before .before .before .before .before .before .before in
-    let a = c .before .before .before .before .before .before .before .before .before .before .before .before .args in
-    let t = c .before .before .transmit .ensures in
-    told (a .s) (now (a .buffer)) (now (a .out)) _ _ _
-    (next-due (a .s) _ _ (entry-is _ (e .before .lent .ensures) (e .admit .ensures) (c .before .before .before .before .before .before .enum-told .given .1)) (sym (c .before .before .before .before .before .waits .ensures) ∙ c .before .before .before .before .if1 .left)) (t .0) (t .1)
+    let e = c .before .before .before .before .before .before in
+    let a = c .before .before .before .before .before .before .before .before .before .before .args in
+    let o = opened _ _ (sym (c .before .before .before .before .enum-told .given .1) ∙ e .admit .ensures) in
+    let t = c .before .before .frame-step .ensures in
+    told (a .s) (now (a .buffer)) (now (a .out)) _ _ _ (next-step (a .s) (now (a .buffer)) (now (a .out)) (sym (e .before .lent .ensures) ∙ o .0) (o .1)) (t .0) (t .1)
 
 pub next-frame-spec : {M : Type 1} → statement M
-next-frame-spec = tie.close (tie.spec (λ c κs. search needs) (λ c κs. search needs) (λ c. search needs) (λ c κs. search needs) (λ c. search needs) (λ c κs. search needs) transmit-requires returns returns-2 (λ c. search needs) returns-3)
+next-frame-spec = tie.close (tie.spec (λ c κs. search needs) (λ c κs. search needs) (λ c. search needs) (λ c κs. search needs) (λ c. search needs) (λ c κs. search needs) returns (λ c. search needs) returns-2)

@@ -2,19 +2,18 @@ use borrow.Author.Needs.{needs}
 use native.Mathlib.Omega.{arith}
 use mathlib.Core.Path.{refl}
 use Rattle.sender.specs.Transmit.{sentOf}
-use Rattle.sender.proofs.Held.{held}
 use Rattle.sender.proofs.transmit.sent.Statement.{statement}
 use Rattle.sender.proofs.transmit.sent.Tie as tie
 
 add-s-2 : tie.Need-add-s-2
-add-s-2 c = let h = held _ (c .before .before .pre .0) in omega (arith, h .marks .unanswered-most, h .limits .window-most)
+add-s-2 c = search needs
 
 add-s-3 : tie.Need-add-s-3
-add-s-3 c = omega (arith, held _ (c .before .before .before .pre .0) .marks .frames-most)
+add-s-3 c = omega (arith, c .before .before .before .pre .2)
 
 returns : tie.Need-returns
 unfolding sentOf
-returns c = rw (c .before .before .before .pre .1) refl
+returns c = rw (c .before .before .before .pre .3) refl
 
 pub sent-spec : {M : Type 1} → statement M
 sent-spec = tie.close (tie.spec (λ c. search needs) add-s-2 add-s-3 returns)

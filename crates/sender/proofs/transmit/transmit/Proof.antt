@@ -1,42 +1,39 @@
 use borrow.Author.Needs.{needs}
 use native.Mathlib.Omega.{arith}
 use Prim.Native.Nat.{ℕ, _+_, _-_}
-use mathlib.Core.Bool.{true}
 use mathlib.Core.List.{List}
 use mathlib.Core.Path.{_≡_, sym, ap, _∙_}
 use denote.Ref.{now}
-use lib.ListN.{length, take, drop}
-use Rattle.frame.specs.Write.{writable, written}
+use lib.ListN.{take, drop}
+use Rattle.frame.specs.Format.{encode}
+use Rattle.frame.specs.Write.{answered, writeAnswer, written}
+use Rattle.frame.specs.declared.types.Header.{Header}
 use Rattle.frame.specs.declared.types.Written.{Written}
-use Rattle.frame.proofs.Hands.{answered, handed}
-use Rattle.sender.specs.Transmit.{lentOf, lesser, dataHeader, partOf, frameOf, sentOf}
+use Rattle.frame.proofs.Hands.{wrote}
+use Rattle.sender.specs.Transmit.{lesser, dataHeader, partOf, frameOf, sentOf}
 use Rattle.sender.specs.declared.types.Sender.{Sender}
-use Rattle.sender.proofs.Held.{held, lent-holds}
-use Rattle.sender.proofs.Due.{part-length, can-write}
+use Rattle.sender.proofs.Steps.{fits}
+use Rattle.sender.proofs.Due.{due}
 use Rattle.sender.proofs.transmit.transmit.Statement.{statement}
 use Rattle.sender.proofs.transmit.transmit.Tie as tie
 
 data-length-requires : tie.Need-data-length-requires
-data-length-requires c κs = held _ (lent-holds _ _ (c .before .before .pre .0) .0) .marks .next-most
+data-length-requires c κs = fits _ _ (c .before .before .pre .0) .next-most
 
 part-write-end : tie.Need-part-write-end
 part-write-end c =
-    let l = lent-holds _ _ (c .before .before .before .before .before .pre .0) in
-    let m = held _ (l .0) .marks in
-    omega (arith, l .1, m .next-most, m .end-most, c .before .before .data-length .ensures)
+    let f = fits _ _ (c .before .before .before .before .before .pre .0) in
+    omega (arith, f .next-most, f .end-most, c .before .before .data-length .ensures)
 
 sent-requires : tie.Need-sent-requires
-sent-requires c κs = (lent-holds _ _ (c .before .before .before .before .before .before .before .before .before .before .before .before .before .pre .0) .0, c .before .before .before .before .before .before .before .before .before .before .data-length .ensures)
+sent-requires c κs =
+    let p = c .before .before .before .before .before .before .before .before .before .before .before .before .before .pre in
+    let f = fits _ _ (p .0) in
+    (f .next-most, due _ (p .1) .window, f .frames-most, c .before .before .before .before .before .before .before .before .before .before .data-length .ensures)
 
 -- the frame's data, as the writer got it
 part-is : (s : Sender) (d : List ℕ) (n : ℕ) → n ≡ lesser s → take ((s .next + n) - s .next) (drop (s .next) d) ≡ partOf s d
 part-is s d n e = let k : (s .next + n) - s .next ≡ lesser s = omega arith in ap (λ (k : ℕ). take k (drop (s .next) d)) k
-
-can : (s : Sender) (d : List ℕ) → lentOf s (length d) ≡ true → writable (dataHeader s) (length (partOf s d)) ≡ true
-can s d e =
-    let l = lent-holds s (length d) e in
-    let h = held s (l .0) in
-    can-write s (length (partOf s d)) h (omega (arith, part-length s d h (l .1), h .limits .size-most))
 
 returns : tie.Need-returns
 unfolding frameOf
@@ -44,7 +41,7 @@ returns c =
     let a = c .before .before .before .before .before .before .before .before .before .before .before .before .before .before .args in
     let s = a .s in
     let d = now (a .buffer) in
-    handed s (sentOf s) (dataHeader s) (partOf s d) (now (a .out)) (can s d (c .before .before .before .before .before .before .before .before .before .before .before .before .before .before .pre .0))
+    wrote s (sentOf s) (dataHeader s) (partOf s d) (now (a .out))
     (rw (c .sent .ensures) (ap (λ (w : Written). answered s (sentOf s) (written w)) (sym (c .before .before .written .given .1)))) (c .before .before .before .before .before .before .before .before .before .header .ensures) (part-is s d _ (c .before .before .before .before .before .before .before .before .before .before .before .data-length .ensures)) (c .before .before .before .before .before .before .write .ensures)
 
 returns-2 : tie.Need-returns-2
@@ -53,7 +50,7 @@ returns-2 c =
     let a = c .before .before .before .before .before .before .before .before .before .before .before .before .before .before .args in
     let s = a .s in
     let d = now (a .buffer) in
-    handed s (sentOf s) (dataHeader s) (partOf s d) (now (a .out)) (can s d (c .before .before .before .before .before .before .before .before .before .before .before .before .before .before .pre .0))
+    wrote s (sentOf s) (dataHeader s) (partOf s d) (now (a .out))
     (c .refused .ensures ∙ ap (λ (w : Written). answered s (sentOf s) (written w)) (sym (c .before .before .written2 .given .1))) (c .before .before .before .before .before .before .before .before .before .header .ensures) (part-is s d _ (c .before .before .before .before .before .before .before .before .before .before .before .data-length .ensures)) (c .before .before .before .before .before .before .write .ensures)
 
 pub transmit-spec : {M : Type 1} → statement M

@@ -4,7 +4,7 @@ use mathlib.Core.List.{List}
 use mathlib.Core.Path.{_≡_, refl, sym, ap, _∙_}
 use denote.Ref.{now}
 use lib.ListN.{length, take, drop}
-use Rattle.status.proofs.Opened.{entry-is}
+use Rattle.status.proofs.Opened.{opened, entry-is}
 use Rattle.status.specs.Answer.{Left}
 use Rattle.frame.specs.Read.{headerIn, iuOf}
 use Rattle.arrival.specs.Accept.{accepted}
@@ -25,7 +25,10 @@ placed-is : (x : Target) (f d : List ℕ) {a : Arrived} {y : Left Target} {left 
 placed-is x f d {a} p t = (t .0, t .1 ∙ ap (λ (b : Arrived). storing (takenOf x a (length d) .says) (b .header .offset) (take (b .len) (drop (b .start) f)) d) (sym (p .is)))
 
 take-requires : tie.Need-take-requires
-take-requires c κs = inside (passed _ WriteTarget _ _ (sym (c .before .before .before .before .accept .ensures) ∙ ap accepted (c .before .before .a .given .1)))
+take-requires c κs =
+    let e = c .before .before .before .before .before .before .before .before in
+    let o = opened _ _ (sym (c .before .before .before .before .before .before .enum-told .given .1) ∙ e .admit .ensures) in
+    (inside (passed _ WriteTarget _ _ (sym (c .before .before .before .before .accept .ensures) ∙ ap accepted (c .before .before .a .given .1))), sym (e .before .lent .ensures) ∙ o .0, o .1)
 
 returns : tie.Need-returns
 unfolding writeArrivalOf

@@ -4,7 +4,8 @@ use denote.Ref.{now}
 use lib.Dec.{eqb}
 use Rattle.frame.specs.Write.{written}
 use Rattle.frame.specs.declared.types.Written.{Written}
-use Rattle.frame.proofs.Hands.{answered, handed}
+use Rattle.frame.specs.Write.{answered}
+use Rattle.frame.proofs.Hands.{handed}
 use Rattle.target.specs.Record.{AGAIN}
 use Rattle.target.specs.Transmit.{issuedOf, xferRdyHeader, xferRdyIu, frameOf}
 use Rattle.target.proofs.Held.{held}
