@@ -44,7 +44,7 @@ fn runs(first: u64, n: u64) -> Result<u64, String> {
         match world::run(t, &list) {
             Ok(c) => calls += c,
             Err((k, _)) => {
-                return Err(world::report(&format!("run of seed {seed}, at its event {k}, after {calls} calls"), t, &list));
+                return Err(tree::of_run(&format!("run of seed {seed}, at its event {k}, after {calls} calls"), t, &list));
             }
         }
     }

@@ -126,6 +126,8 @@ struct Walk {
     calls: u64,
     /// The shortest list after which the two sides differ.
     found: Option<(Transfer, Vec<Event>)>,
+    /// How many states to keep; None: all.
+    states: Option<usize>,
 }
 
 impl Walk {
@@ -191,7 +193,7 @@ impl Walk {
         let mut next = w.clone();
         let mut level = vec![(w, start.to_vec())];
         let mut len = 0;
-        while !level.is_empty() && limit.is_none_or(|n| len < n) {
+        while !level.is_empty() && limit.is_none_or(|n| len < n) && self.states.is_none_or(|n| known.len() < n) {
             let mut new = Vec::new();
             for (w, list) in &mut level {
                 copy(&mut next, w);
@@ -269,4 +271,21 @@ pub fn longer(depth: usize) -> Result<u64, String> {
         }
     }
     walk.end("longer list")
+}
+
+/// The list of a run, made short: events are dropped while the difference stays; then shorter lists of the same events and of the link's
+/// are tried, the shortest first, until 100,000 states are known.
+pub fn of_run(what: &str, t: Transfer, list: &[Event]) -> String {
+    let (list, _) = shortest(t, list);
+    let mut events = link_events(&t);
+    list.iter().for_each(|e| {
+        if !events.contains(e) {
+            events.push(*e)
+        }
+    });
+    let mut walk = Walk { t, found: Some((t, list)), states: Some(100_000), ..Walk::default() };
+    if let Some(w) = walk.start(t, &[]) {
+        walk.longer(w, &[], &events, None);
+    }
+    walk.end(what).unwrap_err()
 }
