@@ -7,6 +7,7 @@ use port::{ladder, read_receive, read_send, write_receive, write_send};
 use std::hint::black_box;
 use std::io::Write;
 use std::process::{Command, Stdio};
+use std::sync::OnceLock;
 use std::time::Instant;
 
 type Ask<S> = unsafe extern "C" fn(*mut S, *const u8, usize, *mut u8, usize) -> Answer;
@@ -54,8 +55,10 @@ struct Buffers {
     clock: f64,
 }
 
+/// What it costs to read the clock, taken once: an estimate for each row would be too high now and then, and the best time would be the one it was taken off.
 fn clock() -> f64 {
-    least((0..10_000).map(|_| nanos(Instant::now(), Instant::now())))
+    static ONCE: OnceLock<f64> = OnceLock::new();
+    *ONCE.get_or_init(|| least((0..1_000_000).map(|_| nanos(Instant::now(), Instant::now()))))
 }
 
 fn buffers(count: usize) -> Buffers {
@@ -155,12 +158,12 @@ fn write_sides(t: Transfer) -> [Side<Writer, Target>; 2] {
     ]
 }
 
-/// Of each column the time that one round in fifty is below: what else runs on a machine only adds.
-fn undisturbed(mut rows: Vec<Times>) -> Times {
+/// Of each column the time that one round in `part` is below: 50 for rounds that little else disturbed, 2 for the median.
+fn below(part: usize, rows: &mut [Times]) -> Times {
     let mut m = Times::default();
     for (i, x) in m.0.iter_mut().enumerate() {
         rows.sort_by(|a, b| a.0[i].total_cmp(&b.0[i]));
-        *x = rows[rows.len() / 50].0[i];
+        *x = rows[rows.len() / part].0[i];
     }
     m
 }
@@ -181,7 +184,7 @@ fn read(count: usize, size: usize) -> Transfer {
 }
 
 /// Library, port and copies in turn, round after round, so that all three meet the same disturbances.
-fn measure(write: bool, count: usize, size: usize, rounds: usize) -> [Times; 3] {
+fn measure(write: bool, count: usize, size: usize, rounds: usize) -> [Vec<Times>; 3] {
     let t = Transfer { write, ..read(count, size) };
     let mut b = buffers(count);
     let mut rows = [const { Vec::new() }; 3];
@@ -193,7 +196,7 @@ fn measure(write: bool, count: usize, size: usize, rounds: usize) -> [Times; 3] 
         }
         rows[2].push(copies(size, &mut b));
     }
-    rows.map(undisturbed)
+    rows
 }
 
 fn line(what: &str, size: usize, [lib, port, copy]: &[Times; 3]) {
@@ -277,26 +280,34 @@ fn main() {
     for shift in [10, 12, 14, 16, 18, 20, 22, 24] {
         rows.push((format!("read, 1024, {} KiB", (1 << shift) >> 10), false, 1 << shift, 1024));
     }
-    // All rows in each pass, so that a disturbance of some seconds meets them alike.
+    // All rows in each pass, so that a disturbance of some seconds meets them alike. Best: the least over the passes of the fastest fiftieth;
+    // median: over all rounds of all passes.
     let mut best = vec![[Times([f64::INFINITY; 3]); 3]; rows.len()];
+    let mut all: Vec<[Vec<Times>; 3]> = rows.iter().map(|_| Default::default()).collect();
     for _ in 0..passes {
-        for ((_, write, count, size), best) in rows.iter().zip(&mut best) {
+        for (k, (_, write, count, size)) in rows.iter().enumerate() {
             let rounds = (1_000 * WINDOW * 1024 / count).clamp(3, 4_000);
-            for (b, m) in best.iter_mut().zip(measure(*write, *count, *size, rounds)) {
-                b.0.iter_mut().zip(m.0).for_each(|(x, y)| *x = x.min(y));
+            for (side, mut times) in measure(*write, *count, *size, rounds).into_iter().enumerate() {
+                let m = below(50, &mut times);
+                best[k][side].0.iter_mut().zip(m.0).for_each(|(x, y)| *x = x.min(y));
+                all[k][side].append(&mut times);
             }
         }
     }
     println!(
-        "ns a frame: out is a frame asked for, in its arrival; MB/s and ratios are of out and in together; the best of {passes} passes"
+        "ns a frame: out is a frame asked for, in its arrival; MB/s and ratios are of out and in together; {passes} passes; clock {} ns",
+        clock()
     );
-    println!("{:<30} {:^20} | {:^20} | {:^13} | {:^23} | {:^11}", "", "library", "port", "copies", "MB/s", "library to");
-    println!(
-        "{:<30} {:>6} {:>6} {:>6} | {:>6} {:>6} {:>6} | {:>6} {:>6} | {:>7} {:>7} {:>7} | {:>5} {:>5}",
-        "", "out", "in", "ACK", "out", "in", "ACK", "out", "in", "library", "port", "copies", "port", "copy"
-    );
-    for ((what, _, _, size), best) in rows.iter().zip(&best) {
-        line(what, *size, best);
+    for (name, medians) in [("best", false), ("median", true)] {
+        println!("{name:<30} {:^20} | {:^20} | {:^13} | {:^23} | {:^11}", "library", "port", "copies", "MB/s", "library to");
+        println!(
+            "{:<30} {:>6} {:>6} {:>6} | {:>6} {:>6} {:>6} | {:>6} {:>6} | {:>7} {:>7} {:>7} | {:>5} {:>5}",
+            "", "out", "in", "ACK", "out", "in", "ACK", "out", "in", "library", "port", "copies", "port", "copy"
+        );
+        for (k, (what, _, _, size)) in rows.iter().enumerate() {
+            let times = if medians { std::array::from_fn(|side| below(2, &mut all[k][side])) } else { best[k] };
+            line(what, *size, &times);
+        }
     }
     refusals(passes * 1_000);
     ladder_rows();
