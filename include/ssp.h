@@ -60,7 +60,7 @@ enum ssp_what {
     SSP_REFUSED = 0,              /* [number 1 to 8] nothing changed */
     SSP_FAILED = 1,               /* [number 20 to 32, frames] the record has ended */
     SSP_WAIT = 2,                 /* no frame is due */
-    SSP_FRAME = 3,                /* [len] so many bytes stand at the front of the output buffer */
+    SSP_FRAME = 3,                /* [len] so many bytes stand at the front of the output buffer; after a writer's step: its part of them */
     SSP_TAKEN = 4,                /* the event was taken; nothing to tell */
     SSP_RETRY = 5,                /* a retry begins: ask for frames again */
     SSP_UNCHANGED = 6,            /* a cut with nothing unanswered */
@@ -344,6 +344,17 @@ ssp_answer ssp_response_nexus_loss(ssp_responder *responder);
 /* Writes header, IU and fill. 1 (another type, an address above 24 bits, an IU over 1,024 bytes), 3, else SSP_FRAME. Output bytes beyond
  * the frame stay as they were. */
 ssp_answer ssp_frame_write(ssp_header header, const uint8_t *iu, size_t iu_len, uint8_t *out, size_t out_len);
+
+/* The same in two steps, for a port that has the data before the header. Each takes what ssp_frame_write takes, refuses as it does and
+ * answers the length of the whole frame. With the same header, IU and output buffer they are ssp_frame_write, one after the other in
+ * either order; each may be called again. */
+/* Writes IU and fill from byte 24 on. 1, 3, else SSP_FRAME. The first 24 output bytes and those beyond the frame stay as they were. Of the
+ * header counts only whether it is taken: the header step may have another one, and refuses that by itself. */
+ssp_answer ssp_frame_write_data(ssp_header header, const uint8_t *iu, size_t iu_len, uint8_t *out, size_t out_len);
+/* Writes the header, 24 bytes. 1, 3 (also where the header would fit and the whole frame does not), else SSP_FRAME. All other output bytes
+ * stay as they were. Of the IU counts only its length; as everywhere, the pointer has to be valid and the buffer apart from out (so not
+ * out + 24). */
+ssp_answer ssp_frame_write_header(ssp_header header, const uint8_t *iu, size_t iu_len, uint8_t *out, size_t out_len);
 
 /* Reads a frame, any bytes. 5, 6, else SSP_PARSED: the IU is len bytes from start, without the fill. */
 ssp_answer ssp_frame_read(ssp_header *header, const uint8_t *bytes, size_t bytes_len);

@@ -1,5 +1,5 @@
 /* Each field that C sets is the one that the library sees: every field of every record is set by itself to a telling value, and an answer,
- * a frame's bytes or the record that is left shows that the library reads it there. All functions are called. Prints one line. */
+ * a frame's bytes or the record that is left shows that the library reads it there. All functions are called; the writer's two steps are tried apart. Prints one line. */
 #include "layout.h"
 #include "layout_read.h"
 #include "layout_write.h"
@@ -20,6 +20,7 @@ int main(void) {
     target_fields();
     responder_fields();
     header_fields();
+    writer_steps();
     if (wrong > 0) {
         printf("%u of %u checks failed\n", wrong, checks);
         return 1;

@@ -1,4 +1,4 @@
-/* The RESPONSE's record, frame header and XFER_RDY: part of layout.c. */
+/* The RESPONSE's record, frame header and XFER_RDY, the writer in two steps: part of layout.c. */
 static void responder_fields(void) {
     {
         ssp_responder x, want = responder();
@@ -118,4 +118,75 @@ static void header_fields(void) {
     TRY("an XFER_RDY's IU of 11 bytes, R10", failed(ssp_xfer_rdy_read(&y, out, 11), 23, 0) && y.offset == x.offset && y.len == x.len);
     TRY("an XFER_RDY's IU of 13 bytes, R10", failed(ssp_xfer_rdy_read(&y, out, 13), 24, 0) && y.offset == x.offset && y.len == x.len);
     TRY("an output buffer of 11 bytes", refused(ssp_xfer_rdy_write(x, out, 11), 3) && out[0] == 0xFF);
+}
+
+/* ---- the writer in two steps ---- */
+
+/* Bytes `from` to `end` of `out` are those of `frame`, all others untouched since `blank`. */
+static int put_down(const uint8_t *frame, unsigned from, unsigned end) {
+    unsigned i;
+    for (i = 0; i < sizeof out; i++) {
+        if (out[i] != (i >= from && i < end ? frame[i] : 0xEE)) {
+            return 0;
+        }
+    }
+    return 1;
+}
+static void blank(void) { memset(out, 0xEE, sizeof out); }
+
+/* Each of the three functions refuses with that number, and nothing changes. */
+static int steps_refuse(ssp_header h, size_t len, size_t space, unsigned number) {
+    blank();
+    return refused(ssp_frame_write_data(h, iu, len, out, space), number) &&
+           refused(ssp_frame_write_header(h, iu, len, out, space), number) && refused(ssp_frame_write(h, iu, len, out, space), number) &&
+           put_down(out, 0, 0);
+}
+
+static void writer_steps(void) {
+    /* every field but RETRANSMIT other than zero, six bytes of `data`, two of fill */
+    static const uint8_t frame[32] = {0x16, 1, 2, 3, 0, 4, 5, 6, 0, 0, 5, 2, 0, 0, 0, 0, 7, 8, 9, 10, 11, 12, 13, 14, /* header */
+                                      1, 2, 3, 4, 5, 6, 0, 0};
+    ssp_header h = header(SSP_TYPE_TASK, 0x010203, 0x040506), other;
+    h.retry = h.cdp = true;
+    h.tag = 0x0708;
+    h.tptt = 0x090A;
+    h.offset = 0x0B0C0D0E;
+
+    blank();
+    TRY("the data step", framed(ssp_frame_write_data(h, data, 6, out, sizeof out), 32) && put_down(frame, 24, 32));
+    TRY("the data step again", framed(ssp_frame_write_data(h, data, 6, out, sizeof out), 32) && put_down(frame, 24, 32));
+    TRY("data, then header", framed(ssp_frame_write_header(h, data, 6, out, sizeof out), 32) && put_down(frame, 0, 32));
+    blank();
+    TRY("the header step", framed(ssp_frame_write_header(h, data, 6, out, sizeof out), 32) && put_down(frame, 0, 24));
+    TRY("the header step again", framed(ssp_frame_write_header(h, data, 6, out, sizeof out), 32) && put_down(frame, 0, 24));
+    TRY("header, then data", framed(ssp_frame_write_data(h, data, 6, out, sizeof out), 32) && put_down(frame, 0, 32));
+    blank();
+    TRY("the writer", framed(ssp_frame_write(h, data, 6, out, sizeof out), 32) && put_down(frame, 0, 32));
+    blank();
+    TRY("the header step, another IU as long", framed(ssp_frame_write_header(h, iu, 6, out, sizeof out), 32) && put_down(frame, 0, 24));
+    other = header(SSP_TYPE_DATA, 0, 0);
+    other.retransmit = true;
+    blank();
+    TRY("the data step, another header", framed(ssp_frame_write_data(other, data, 6, out, sizeof out), 32) && put_down(frame, 24, 32));
+    TRY("the header step, RETRANSMIT", framed(ssp_frame_write_header(other, data, 6, out, sizeof out), 32) && be(8, 4) == 0x0202);
+    blank();
+    TRY("the data step, no data", framed(ssp_frame_write_data(h, data, 0, out, 24), 24) && put_down(frame, 0, 0));
+    TRY("the data step, 1,024 bytes", framed(ssp_frame_write_data(h, iu, 1024, out, 1048), 1048) && memcmp(out + 24, iu, 1024) == 0);
+    TRY("the header step, 1,024 bytes", framed(ssp_frame_write_header(h, iu, 1024, out, 1048), 1048) && memcmp(out + 24, iu, 1024) == 0);
+
+    /* refusals; in the first two the header would fit */
+    TRY("four bytes in 24: 3 of each step", steps_refuse(h, 4, 24, 3));
+    TRY("four bytes in 27: 3 of each step", steps_refuse(h, 4, 27, 3));
+    TRY("no data in 23: 3 of each step", steps_refuse(h, 0, 23, 3));
+    TRY("1,025 bytes: 1 of each step", steps_refuse(h, 1025, sizeof out, 1));
+    TRY("1,025 bytes in none: 1 before 3", steps_refuse(h, 1025, 0, 1));
+    other = h;
+    other.kind = 2;
+    TRY("type 2: 1 of each step", steps_refuse(other, 4, sizeof out, 1) && steps_refuse(other, 4, 24, 1));
+    other = h;
+    other.dest = 0x1000000;
+    TRY("a destination above 24 bits: 1 of each step", steps_refuse(other, 4, sizeof out, 1) && steps_refuse(other, 4, 24, 1));
+    other = h;
+    other.source = 0x1000000;
+    TRY("a source above 24 bits: 1 of each step", steps_refuse(other, 4, sizeof out, 1) && steps_refuse(other, 4, 24, 1));
 }

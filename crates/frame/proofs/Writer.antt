@@ -1,27 +1,34 @@
--- The writer's definition: how long a frame is, how it is put down in three parts, and what each return of the writer shows.
-use Prim.Native.Nat.{ℕ, zero, suc, _+_, _-_, _%_, _≤_, _<_}
-use mathlib.Core.List.{List, [], _∷_, _++_, append-assoc}
-use mathlib.Core.Bool.{true, false}
-use mathlib.Core.Path.{_≡_, refl, sym, ap, _∙_}
+-- The writer's definition: how long a frame is, how IU and fill are put down, and what each answer shows.
+use Prim.Native.Nat.{ℕ, zero, suc, _+_, _≤_, _<_}
+use mathlib.Core.List.{List, [], _∷_, _++_}
+use mathlib.Core.Bool.{Bool, true, false}
+use mathlib.Core.Path.{_≡_, refl, ap, _∙_}
 use native.Mathlib.Omega.{arith}
 use lib.ListN.{length, take, replicate, length-append, length-replicate}
-use lib.Seq.{take-length}
-use borrow.Author.Tests.{le-leb, lt-leb}
+use lib.Dec.{leb}
+use borrow.Author.Tests.{le-leb, lt-leb, leb-true}
 use Rattle.status.specs.Pick.{pick}
 use Rattle.status.specs.Outcome.{Outcome}
-use Rattle.status.proofs.Choose.{in-true, in-false}
+use Rattle.status.proofs.Choose.{in-true, in-false, each}
 use Rattle.frame.specs.Format.{fillOf, headerBytes, dataBytes, encode}
-use Rattle.frame.specs.Write.{writable, writeAnswer, over, placed, put}
+use Rattle.frame.specs.Write.{request, writable, writeAnswer, placed}
 use Rattle.frame.specs.declared.types.Header.{Header}
-use Rattle.frame.proofs.Place.{extended, at-front}
+use Rattle.frame.proofs.Place.{placed-behind}
 
 pub header-length : (h : Header) (fill : ℕ) → length (headerBytes h fill) ≡ 24
 unfolding headerBytes
 header-length h fill = refl
 
+pub data-length : (iu : List ℕ) → length (dataBytes iu) ≡ length iu + fillOf (length iu)
+unfolding dataBytes
+data-length iu = simp (length-append, length-replicate)
+
+pub encode-parts : (h : Header) (iu : List ℕ) → length (encode h iu) ≡ 24 + length (dataBytes iu)
+unfolding encode
+encode-parts h iu = simp (length-append, header-length)
+
 pub encode-length : (h : Header) (iu : List ℕ) → length (encode h iu) ≡ 24 + length iu + fillOf (length iu)
-unfolding encode dataBytes
-encode-length h iu = simp (length-append, length-replicate, header-length) (omega arith)
+encode-length h iu = omega (arith, encode-parts h iu, data-length iu)
 
 -- at most three zeros
 pub zeros : (k : ℕ) → k < 4 → take {A = ℕ} k (0 ∷ 0 ∷ 0 ∷ []) ≡ replicate k 0
@@ -31,35 +38,51 @@ zeros (suc (suc zero)) b = refl
 zeros (suc (suc (suc zero))) b = refl
 zeros (suc (suc (suc (suc k)))) b = absurd (omega arith)
 
-module _ (h : Header) (iu d : List ℕ) where
-  -- header, IU and fill put down one after the other
-  pub laid : (p x y w z : List ℕ) (f : ℕ) → f ≡ fillOf (length iu) → p ≡ headerBytes h f → x ≡ placed d 0 p → y ≡ placed x 24 iu → z ≡ take {A = ℕ} f (0 ∷ 0 ∷ 0 ∷ []) → w ≡ placed y (24 + length iu) z → w ≡ over (encode h iu) d
-  unfolding encode dataBytes
-  laid p x y w z f ef ep ex ey ez ew =
-      let f4 : f < 4 = omega arith in
-      let e₁ : x ≡ over p d = ex ∙ at-front p d in
-      let l₁ : length p ≡ 24 = ap length ep ∙ header-length h f in
-      let e₂ : y ≡ over (p ++ iu) d = ey ∙ ap (λ (v : List ℕ). placed v 24 iu) e₁ ∙ extended p iu d l₁ in
-      let l₂ : length (p ++ iu) ≡ 24 + length iu = length-append p iu ∙ ap (λ (n : ℕ). n + length iu) l₁ in
-      let e₃ : w ≡ over (p ++ iu ++ z) d = ew ∙ ap (λ (v : List ℕ). placed v (24 + length iu) z) e₂ ∙ extended (p ++ iu) z d l₂ in
-      let ez₂ : z ≡ replicate (fillOf (length iu)) 0 = ez ∙ zeros f f4 ∙ ap (λ (k : ℕ). replicate k 0) ef in
-      let ep₂ : p ≡ headerBytes h (fillOf (length iu)) = ep ∙ ap (headerBytes h) ef in
-      e₃ ∙ ap (λ (v : List ℕ). over v d) (append-assoc p iu z ∙ ap (λ (q : List ℕ). q ++ (iu ++ z)) ep₂ ∙ ap (λ (q : List ℕ). headerBytes h (fillOf (length iu)) ++ (iu ++ q)) ez₂)
+-- IU and fill put down one after the other
+pub laid : (iu d y w : List ℕ) (f : ℕ) → 24 ≤ length d → f ≡ fillOf (length iu) → y ≡ placed d 24 iu → w ≡ placed y (24 + length iu) (take {A = ℕ} f (0 ∷ 0 ∷ 0 ∷ [])) → w ≡ placed d 24 (dataBytes iu)
+unfolding dataBytes
+laid iu d y w f within ef ey ew =
+    let z = take {A = ℕ} f (0 ∷ 0 ∷ 0 ∷ []) in
+    let ez : z ≡ replicate (fillOf (length iu)) 0 = zeros f (omega arith) ∙ ap (λ (k : ℕ). replicate k 0) ef in
+    ew ∙ ap (λ (v : List ℕ). placed v (24 + length iu) z) ey ∙ placed-behind d iu 24 within z ∙ ap (λ (v : List ℕ). placed d 24 (iu ++ v)) ez
 
-  -- each answer, with what it leaves in the buffer
-  answers : (a : Outcome ℕ) (left : List ℕ) → a ≡ writeAnswer h iu d → left ≡ put a (encode h iu) d → (a ≡ writeAnswer h iu d) × (left ≡ put (writeAnswer h iu d) (encode h iu) d)
-  answers a left e p = (e, p ∙ ap (λ (x : Outcome ℕ). put x (encode h iu) d) e)
+-- an IU that the writer takes
+pub short-iu : (h : Header) (n : ℕ) → writable h n ≡ true → n ≤ 1_024
+short-iu h n w = leb-true _ _ (each (request h n) w .1 .1 .1 .0)
 
-  pub refuses-1 : writable h (length iu) ≡ false → (Outcome.number 1 ≡ writeAnswer h iu d) × (d ≡ put (writeAnswer h iu d) (encode h iu) d)
-  refuses-1 w = answers (Outcome.number 1) d (in-false _ _ _ _ w refl) refl
+-- each answer, by the lengths of IU and output buffer
+module _ (h : Header) (n room : ℕ) where
+  abbrev pub Answers : Outcome ℕ → Type 0
+  Answers a = (iu out : List ℕ) → length iu ≡ n → length out ≡ room → a ≡ writeAnswer h iu out
 
-  pub refuses-3 : (f : ℕ) → f ≡ fillOf (length iu) → writable h (length iu) ≡ true → length d < 24 + length iu + f → (Outcome.number 3 ≡ writeAnswer h iu d) × (d ≡ put (writeAnswer h iu d) (encode h iu) d)
-  refuses-3 f ef w short =
-      let s : length d < length (encode h iu) = omega (arith, encode-length h iu) in
-      answers (Outcome.number 3) d (in-true _ _ _ _ w (in-false _ _ _ _ (lt-leb _ _ s) refl)) refl
+  pub refuses-1 : writable h n ≡ false → Answers (Outcome.number 1)
+  refuses-1 w iu out ei eo = in-false _ _ _ _ (ap (writable h) ei ∙ w) refl
 
-  pub writes : (f : ℕ) (left : List ℕ) → f ≡ fillOf (length iu) → writable h (length iu) ≡ true → 24 + length iu + f ≤ length d → left ≡ over (encode h iu) d → (Outcome.value (24 + length iu + f) ≡ writeAnswer h iu d) × (left ≡ put (writeAnswer h iu d) (encode h iu) d)
-  writes f left ef w long el =
-      let n : 24 + length iu + f ≡ length (encode h iu) = omega (arith, encode-length h iu) in
-      let s : length (encode h iu) ≤ length d = omega arith in
-      answers (Outcome.value (24 + length iu + f)) left (in-true _ _ _ _ w (in-true _ _ _ _ (le-leb _ _ s) (ap (λ (k : ℕ). Outcome.value k) n))) el
+  pub refuses-3 : (f : ℕ) → f ≡ fillOf n → writable h n ≡ true → room < 24 + n + f → Answers (Outcome.number 3)
+  refuses-3 f ef w short iu out ei eo =
+      let s : length out < length (encode h iu) = omega (arith, encode-length h iu) in
+      in-true _ _ _ _ (ap (writable h) ei ∙ w) (in-false _ _ _ _ (lt-leb _ _ s) refl)
+
+  pub takes : (f : ℕ) → f ≡ fillOf n → writable h n ≡ true → 24 + n + f ≤ room → Answers (Outcome.value (24 + n + f))
+  takes f ef w long iu out ei eo =
+      let k : 24 + n + f ≡ length (encode h iu) = omega (arith, encode-length h iu) in
+      let s : length (encode h iu) ≤ length out = omega arith in
+      in-true _ _ _ _ (ap (writable h) ei ∙ w) (in-true _ _ _ _ (le-leb _ _ s) (ap (λ (m : ℕ). Outcome.value m) k))
+
+-- what holds of a frame that fits and of every refusal holds of the answer
+pub by-answer : (h : Header) (iu d : List ℕ) (G : Outcome ℕ → Type 0) → (length (encode h iu) ≤ length d → G (Outcome.value (length (encode h iu)))) → ((n : ℕ) → G (Outcome.number n)) → G (writeAnswer h iu d)
+unfolding pick
+by-answer h iu d G fits refused = go (writable h (length iu)) (leb (length (encode h iu)) (length d)) (leb-true _ _)
+  where
+    go : (w l : Bool) → (l ≡ true → length (encode h iu) ≤ length d) → G (pick w (pick l (Outcome.value (length (encode h iu))) (Outcome.number 3)) (Outcome.number 1))
+    go true true f = fits (f refl)
+    go true false f = refused 3
+    go false l f = refused 1
+
+-- a frame that is not refused fits
+pub fits : (h : Header) (n room k : ℕ) → Answers h n room (Outcome.value k) → 24 + n + fillOf n ≤ room
+fits h n room k answers =
+    let iu = replicate {A = ℕ} n 0 in
+    let out = replicate {A = ℕ} room 0 in
+    let go : Outcome.value k ≡ writeAnswer h iu out → length (encode h iu) ≤ length out = by-answer h iu out (λ a. Outcome.value k ≡ a → length (encode h iu) ≤ length out) (λ l e. l) (λ m e. let z : _≡_ {A = ℕ} 0 1 = cc in absurd (omega arith)) in
+    omega (arith, go (answers iu out (length-replicate n 0) (length-replicate room 0)), encode-length h iu, length-replicate {A = ℕ} n 0, length-replicate {A = ℕ} room 0)

@@ -1,5 +1,6 @@
 pub mod Format
 pub mod Write
+pub mod TwoSteps
 pub mod Read
 pub mod Reserved
 pub mod RoundTrip

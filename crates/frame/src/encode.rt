@@ -1,10 +1,11 @@
-// The frame writer.
+// The frame writer: a data step and a header step.
 ghost use mathlib.Core.Path.{_≡_};
-ghost use Prim.Native.Nat.{_+_, _≤_, _<_};
-ghost use mathlib.Core.List.{[], _∷_};
+ghost use Prim.Native.Nat.{ℕ, _+_, _≤_, _<_};
+ghost use mathlib.Core.List.{List, [], _∷_};
 ghost use lib.ListN.{length, take};
-ghost use Rattle.frame.specs.Format.{fillOf, headerBytes, encode};
-ghost use Rattle.frame.specs.Write.{writable, written, writeAnswer, put, over, placed};
+ghost use Rattle.frame.specs.Format.{fillOf, headerBytes, dataBytes, encode};
+ghost use Rattle.frame.specs.Write.{writable, written, writeAnswer, put, placed};
+ghost use Rattle.frame.specs.TwoSteps.{putData, putHeader};
 use crate::byte;
 use crate::types::Header;
 use crate::types::Written;
@@ -83,31 +84,74 @@ fn clear(dst: &mut [u8], at: usize, n: usize)
     }
 }
 
-// Puts header, IU and fill down, where they fit.
-fn put_frame(h: Header, iu: &[u8], out: &mut [u8])
-    requires { ⌜ length (encode h (now iu)) ≤ length (now out) ⌝ }
-    ensures { λ _. ⌜ now (out .exit) ≡ over (encode h (now (iu .entry))) (now (out .entry)) ⌝ }
+// Puts IU and fill down behind the header's 24 bytes, where they fit.
+fn place_data(iu: &[u8], out: &mut [u8])
+    requires { ⌜ 24 + length (dataBytes (now iu)) ≤ length (now out) ⌝ }
+    ensures { λ _. ⌜ now (out .exit) ≡ placed (now (out .entry)) 24 (dataBytes (now (iu .entry))) ⌝ }
 {
     let n = iu.len();
     let fill = fill_of(n);
-    let header = head(h, fill as u8);
-    place(&header, out, 0);
     place(iu, out, 24);
     clear(out, 24 + n, fill);
 }
 
-// 1, 3, else the frame's length; the frame stands at the front of the output buffer.
-pub fn write(h: Header, iu: &[u8], out: &mut [u8]) -> Written
-    ensures { λ r. ⌜ (written r ≡ writeAnswer h (now (iu .entry)) (now (out .entry))) × (now (out .exit) ≡ put (writeAnswer h (now (iu .entry)) (now (out .entry))) (encode h (now (iu .entry))) (now (out .entry))) ⌝ }
+// Puts the header of a frame with an IU of n bytes down, where it fits.
+fn place_header(h: Header, n: usize, out: &mut [u8])
+    requires { ⌜ 24 ≤ length (now out) ⌝ }
+    ensures { λ _. ⌜ now (out .exit) ≡ placed (now (out .entry)) 0 (headerBytes h (fillOf n)) ⌝ }
 {
-    let n = iu.len();
+    let fill = fill_of(n);
+    let header = head(h, fill as u8);
+    place(&header, out, 0);
+}
+
+// 1, 3, else the frame's length, for every IU of n bytes and every output buffer of `room`.
+fn answer(h: Header, n: usize, room: usize) -> Written
+    ensures { λ r. ⌜ ((iu out : List ℕ) → length iu ≡ n → length out ≡ room → written r ≡ writeAnswer h iu out) ⌝ }
+{
     if !can_write(h, n) {
         return Written::Refused(Refusal::BadRequest);
     }
     let total = 24 + n + fill_of(n);
-    if out.len() < total {
+    if room < total {
         return Written::Refused(Refusal::FrameSpaceShort);
     }
-    put_frame(h, iu, out);
     Written::Frame(total)
+}
+
+// The data step. 1, 3, else the frame's length; IU and fill stand in the output buffer from byte 24 on.
+pub fn write_data(h: Header, iu: &[u8], out: &mut [u8]) -> Written
+    ensures { λ r. ⌜ (written r ≡ writeAnswer h (now (iu .entry)) (now (out .entry))) × (now (out .exit) ≡ putData h (now (iu .entry)) (now (out .entry))) ⌝ }
+{
+    match answer(h, iu.len(), out.len()) {
+        Written::Frame(len) => {
+            place_data(iu, out);
+            Written::Frame(len)
+        }
+        Written::Refused(why) => Written::Refused(why),
+    }
+}
+
+// The header step. 1, 3 for the whole frame, else the frame's length; the header stands at the front of the output buffer.
+pub fn write_header(h: Header, iu: &[u8], out: &mut [u8]) -> Written
+    ensures { λ r. ⌜ (written r ≡ writeAnswer h (now (iu .entry)) (now (out .entry))) × (now (out .exit) ≡ putHeader h (now (iu .entry)) (now (out .entry))) ⌝ }
+{
+    let n = iu.len();
+    match answer(h, n, out.len()) {
+        Written::Frame(len) => {
+            place_header(h, n, out);
+            Written::Frame(len)
+        }
+        Written::Refused(why) => Written::Refused(why),
+    }
+}
+
+// One step after the other. 1, 3, else the frame's length; the frame stands at the front of the output buffer.
+pub fn write(h: Header, iu: &[u8], out: &mut [u8]) -> Written
+    ensures { λ r. ⌜ (written r ≡ writeAnswer h (now (iu .entry)) (now (out .entry))) × (now (out .exit) ≡ put (writeAnswer h (now (iu .entry)) (now (out .entry))) (encode h (now (iu .entry))) (now (out .entry))) ⌝ }
+{
+    match write_data(h, iu, out) {
+        Written::Frame(_) => write_header(h, iu, out),
+        Written::Refused(why) => Written::Refused(why),
+    }
 }

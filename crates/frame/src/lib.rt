@@ -7,6 +7,8 @@ mod xfer_rdy;
 
 pub use decode::read;
 pub use encode::write;
+pub use encode::write_data;
+pub use encode::write_header;
 pub use types::COMMAND;
 pub use types::DATA;
 pub use types::Decoded;

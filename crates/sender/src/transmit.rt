@@ -114,7 +114,8 @@ fn fits(s: Sender, n: usize) -> bool
     (s.next <= b.end) & (end <= n) & (s.frames < 0x1000_0000_0000_0000)
 }
 
-// A frame asked for, for a port that has tested 1 and 2 on its own record: wait; 3, else a frame of that length.
+// A frame asked for, for a port that has tested 1 and 2 on its own record: 1 where next offset, burst or frame count do not fit; wait; the writer's 1 or 3, else a
+// frame of that length.
 pub fn frame_step(s: Sender, buffer: &[u8], out: &mut [u8]) -> Stepped
     ensures { λ r. ⌜ (stepped r ≡ frameStepOf s (now (buffer .entry)) (now (out .entry))) × (now (out .exit) ≡ handing (frameStepOf s (now (buffer .entry)) (now (out .entry)) .says) (frameOf s (now (buffer .entry))) (now (out .entry))) ⌝ }
 {

@@ -10,7 +10,6 @@ use Rattle.status.specs.Pick.{pick}
 use Rattle.frame.specs.declared.types.Header as frame-header
 use Rattle.frame.specs.declared.types.XferRdy as frame-xfer-rdy
 use Rattle.frame.specs.declared.types.Parsed.{Parsed}
-use Rattle.frame.specs.Format.{encode}
 use Rattle.frame.specs.Write.{put, over, writeAnswer}
 use Rattle.ssp.specs.Told.{tells}
 use Rattle.ssp.specs.Frames.{flat, plain, writtenTold, xferRdyAnswer, headerOf, parsedTold, ReadsHeader, xferRdyIn, xferRdyTold, ReadsXferRdy}
@@ -18,8 +17,9 @@ use Rattle.ssp.specs.declared.types.Told.{Told}
 use Rattle.ssp.specs.declared.types.Header.{Header}
 use Rattle.ssp.specs.declared.types.XferRdy.{XferRdy}
 
-pub frame-written : {g k : frame-header.Header} (iu out : List ℕ) {zs : List ℕ} {o : Outcome ℕ} {a : Told} → g ≡ k → o ≡ writeAnswer g iu out → zs ≡ put (writeAnswer g iu out) (encode g iu) out → a ≡ writtenTold o → (a ≡ writtenTold (writeAnswer k iu out)) × (zs ≡ put (writeAnswer k iu out) (encode k iu) out)
-frame-written iu out e o z a = (a ∙ ap writtenTold (o ∙ ap (λ (h : frame-header.Header). writeAnswer h iu out) e), z ∙ ap (λ (h : frame-header.Header). put (writeAnswer h iu out) (encode h iu) out) e)
+-- the writer or one of its steps, which leaves the output buffer so: its header is the one that C gave
+pub frame-written : {g k : frame-header.Header} (iu out : List ℕ) (left : frame-header.Header → List ℕ) {zs : List ℕ} {o : Outcome ℕ} {a : Told} → g ≡ k → (o ≡ writeAnswer g iu out) × (zs ≡ left g) → a ≡ writtenTold o → (a ≡ writtenTold (writeAnswer k iu out)) × (zs ≡ left k)
+frame-written iu out left e p a = (a ∙ ap writtenTold (p .0 ∙ ap (λ (h : frame-header.Header). writeAnswer h iu out) e), p .1 ∙ ap left e)
 
 pub header-read : {o : Outcome Parsed} (h : Header) (p : Parsed) {y : Header} {a : Told} → Outcome.value p ≡ o → y ≡ flat (p .header) → a ≡ tells 0 17 0 (p .start) (p .len) → ReadsHeader o h y a
 header-read h p e y a = (y ∙ ap (λ (o : Outcome Parsed). headerOf o h) e, a ∙ ap parsedTold e)

@@ -4,7 +4,8 @@ ghost use Prim.Native.Nat.{_≤_};
 ghost use lib.ListN.{length};
 ghost use Rattle.frame.specs.Format.{encode};
 ghost use Rattle.frame.specs.Read.{decode};
-ghost use Rattle.frame.specs.Write.{put, over, writeAnswer};
+ghost use Rattle.frame.specs.Write.{put, over, written, writeAnswer};
+ghost use Rattle.frame.specs.TwoSteps.{putData, putHeader};
 ghost use Rattle.frame.specs.XferRdy.{xferRdyBytes, xferRdyOf};
 ghost use Rattle.ssp.specs.Frames.{framed, flat, asked, plain, writtenTold, xferRdyAnswer, ReadsHeader, ReadsXferRdy};
 use crate::answer;
@@ -73,16 +74,41 @@ fn plain(x: frame::XferRdy) -> XferRdy
     }
 }
 
+// The answer of the writer and of its steps.
+fn wrote(w: Written) -> Told
+    ensures { λ r. ⌜ r ≡ writtenTold (written w) ⌝ }
+{
+    match w {
+        Written::Frame(len) => answer::tell(0, Told::FRAME, 0, 0, len),
+        Written::Refused(why) => answer::told(Answer::Refused(why)),
+    }
+}
+
 // 1, 3, else the frame's length; the frame stands at the front of the output buffer.
 #[no_mangle]
 pub extern "C" fn ssp_frame_write(h: Header, iu: &[u8], out: &mut [u8]) -> Told
     ensures { λ r. ⌜ (r ≡ writtenTold (writeAnswer (framed h) (now (iu .entry)) (now (out .entry)))) × (now (out .exit) ≡ put (writeAnswer (framed h) (now (iu .entry)) (now (out .entry))) (encode (framed h) (now (iu .entry))) (now (out .entry))) ⌝ }
 {
-    let g = framed(h);
-    match frame::write(g, iu, out) {
-        Written::Frame(len) => answer::tell(0, Told::FRAME, 0, 0, len),
-        Written::Refused(why) => answer::told(Answer::Refused(why)),
-    }
+    let w = frame::write(framed(h), iu, out);
+    wrote(w)
+}
+
+// 1, 3, else the frame's length; IU and fill stand in the output buffer from byte 24 on.
+#[no_mangle]
+pub extern "C" fn ssp_frame_write_data(h: Header, iu: &[u8], out: &mut [u8]) -> Told
+    ensures { λ r. ⌜ (r ≡ writtenTold (writeAnswer (framed h) (now (iu .entry)) (now (out .entry)))) × (now (out .exit) ≡ putData (framed h) (now (iu .entry)) (now (out .entry))) ⌝ }
+{
+    let w = frame::write_data(framed(h), iu, out);
+    wrote(w)
+}
+
+// 1, 3 for the whole frame, else its length; the header stands at the front of the output buffer.
+#[no_mangle]
+pub extern "C" fn ssp_frame_write_header(h: Header, iu: &[u8], out: &mut [u8]) -> Told
+    ensures { λ r. ⌜ (r ≡ writtenTold (writeAnswer (framed h) (now (iu .entry)) (now (out .entry)))) × (now (out .exit) ≡ putHeader (framed h) (now (iu .entry)) (now (out .entry))) ⌝ }
+{
+    let w = frame::write_header(framed(h), iu, out);
+    wrote(w)
 }
 
 fn read_header(h: Header, bytes: &[u8]) -> HeaderTold

@@ -43,6 +43,8 @@ extern "C" {
     pub fn ssp_response_nexus_loss(r: *mut Responder) -> Answer;
 
     pub fn ssp_frame_write(h: Header, iu: *const u8, iu_len: usize, out: *mut u8, out_len: usize) -> Answer;
+    pub fn ssp_frame_write_data(h: Header, iu: *const u8, iu_len: usize, out: *mut u8, out_len: usize) -> Answer;
+    pub fn ssp_frame_write_header(h: Header, iu: *const u8, iu_len: usize, out: *mut u8, out_len: usize) -> Answer;
     pub fn ssp_frame_read(h: *mut Header, bytes: *const u8, bytes_len: usize) -> Answer;
     pub fn ssp_xfer_rdy_write(x: XferRdy, out: *mut u8, out_len: usize) -> Answer;
     pub fn ssp_xfer_rdy_read(x: *mut XferRdy, iu: *const u8, iu_len: usize) -> Answer;

@@ -58,15 +58,37 @@ pub fn room(iu: usize) -> usize {
     24 + iu.div_ceil(4) * 4
 }
 
-pub fn write(header: &Header, iu: &[u8], out: &mut [u8]) -> Answer {
+/// Bytes of the frame that is due, else 1 or 3; the writer and its steps refuse alike.
+fn due(header: &Header, iu: &[u8], out: &[u8]) -> Result<usize, u8> {
     if !known(header.kind) || header.dest >= 1 << 24 || header.source >= 1 << 24 || iu.len() > 1024 {
-        return Answer::refused(1);
+        return Err(1);
     }
     let len = room(iu.len());
     if out.len() < len {
-        return Answer::refused(3);
+        return Err(3);
     }
-    let out = &mut out[..len];
+    Ok(len)
+}
+
+/// K2, the first step: data and fill.
+pub fn write_data(header: &Header, iu: &[u8], out: &mut [u8]) -> Answer {
+    let len = match due(header, iu, out) {
+        Ok(len) => len,
+        Err(n) => return Answer::refused(n),
+    };
+    let (data, fill) = out[24..len].split_at_mut(iu.len());
+    data.copy_from_slice(iu);
+    fill.fill(0);
+    Answer::length(len)
+}
+
+/// K2, the second step: the header.
+pub fn write_header(header: &Header, iu: &[u8], out: &mut [u8]) -> Answer {
+    let len = match due(header, iu, out) {
+        Ok(len) => len,
+        Err(n) => return Answer::refused(n),
+    };
+    let out = &mut out[..24];
     out.fill(0);
     out[0] = header.kind;
     out[1..4].copy_from_slice(&header.dest.to_be_bytes()[1..]);
@@ -76,8 +98,13 @@ pub fn write(header: &Header, iu: &[u8], out: &mut [u8]) -> Answer {
     out[16..18].copy_from_slice(&header.tag.to_be_bytes());
     out[18..20].copy_from_slice(&header.tptt.to_be_bytes());
     out[20..24].copy_from_slice(&header.offset.to_be_bytes());
-    out[24..24 + iu.len()].copy_from_slice(iu);
     Answer::length(len)
+}
+
+/// K2: one after the other they are the writer.
+pub fn write(header: &Header, iu: &[u8], out: &mut [u8]) -> Answer {
+    write_data(header, iu, out);
+    write_header(header, iu, out)
 }
 
 pub fn xfer_rdy_write(xfer_rdy: &XferRdy, out: &mut [u8]) -> Answer {

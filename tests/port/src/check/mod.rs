@@ -8,6 +8,7 @@ pub mod rng;
 pub mod single;
 pub mod sources;
 pub mod states;
+pub mod steps;
 pub mod tree;
 pub mod vectors;
 pub mod world;

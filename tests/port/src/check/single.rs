@@ -106,8 +106,8 @@ fn call(g: &mut Rng, rec: &Rec, kind: u64, room: usize) -> Call {
     }
 }
 
-/// The frame reader and writer, and XFER_RDY's IU.
-fn frames(g: &mut Rng) -> Result<(), String> {
+/// The frame reader and writer, XFER_RDY's IU, and the writer's two steps. Calls compared.
+fn frames(g: &mut Rng) -> Result<u64, String> {
     let kind = g.of(&[1, 5, 6, 7, 0x16, 0, 2, 255]);
     let h = Header {
         kind,
@@ -150,14 +150,28 @@ fn frames(g: &mut Rng) -> Result<(), String> {
     if a != b || o != p {
         return Err(format!("xfer_rdy_write {q:?} room {room}: {a:?} {b:?}"));
     }
-    let iu = &iu[..iu.len().min(20)];
+    let seen = &iu[..iu.len().min(20)];
     let (mut x, mut y) = (q, q);
-    let a = frame::xfer_rdy_read(&mut x, iu);
-    let b = unsafe { ffi::ssp_xfer_rdy_read(&mut y, iu.as_ptr(), iu.len()) };
+    let a = frame::xfer_rdy_read(&mut x, seen);
+    let b = unsafe { ffi::ssp_xfer_rdy_read(&mut y, seen.as_ptr(), seen.len()) };
     if a != b || x != y {
-        return Err(format!("xfer_rdy_read {iu:02x?}: {a:?} {b:?}\n  {x:?}\n  {y:?}"));
+        return Err(format!("xfer_rdy_read {seen:02x?}: {a:?} {b:?}\n  {x:?}\n  {y:?}"));
     }
-    Ok(())
+    // In either order, over any bytes; at the end, so that the numbers drawn above stay those of the seed.
+    let room = g.of(&[0, 23, 24, 27, 28, 36, 40, 1047, 1048, 1049]);
+    let mut o: Vec<u8> = (0..room).map(|_| g.next() as u8).collect();
+    let mut p = o.clone();
+    let first = g.one_in(2);
+    for data in [first, !first] {
+        let a = if data { frame::write_data(&h, &iu, &mut o) } else { frame::write_header(&h, &iu, &mut o) };
+        let step = if data { ffi::ssp_frame_write_data } else { ffi::ssp_frame_write_header };
+        let b = unsafe { step(h, iu.as_ptr(), iu.len(), p.as_mut_ptr(), room) };
+        if a != b || o != p {
+            let name = if data { "data" } else { "header" };
+            return Err(format!("frame_write_{name} {h:?} iu {} room {room}: {a:?} {b:?}", iu.len()));
+        }
+    }
+    Ok(6)
 }
 
 /// Calls compared, or the difference; each seed makes one record and three calls. The record before a call
@@ -168,8 +182,7 @@ pub fn all(first: u64, n: u64) -> Result<u64, String> {
     for seed in first..first + n {
         let g = &mut Rng(seed);
         if g.one_in(12) {
-            frames(g).map_err(|e| format!("single call, seed {seed}: {e}"))?;
-            calls += 4;
+            calls += frames(g).map_err(|e| format!("single call, seed {seed}: {e}"))?;
             continue;
         }
         let kind = g.below(5);

@@ -225,5 +225,12 @@ fn space() -> Result<u64, String> {
 }
 
 pub fn all() -> Result<u64, String> {
-    Ok(rungs()? + greatest()? + space()? + super::sources::all()? + super::states::all()? + super::bursts::all()? + super::headers::all()?)
+    Ok(rungs()?
+        + greatest()?
+        + space()?
+        + super::steps::vectors()?
+        + super::sources::all()?
+        + super::states::all()?
+        + super::bursts::all()?
+        + super::headers::all()?)
 }
