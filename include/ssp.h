@@ -12,7 +12,8 @@
  *   - no buffer overlaps another one of the same call, or the record;
  *   - a bool holds 0 or 1 and nothing else;
  *   - a record is used by one thread at a time, and its buffers are left alone during the call;
- *   - a record is set before it is lent, also to a set-up or a reader: all zero will do.
+ *   - a record is set before it is lent, also to a set-up or a reader: all zero will do; and so is every field of a transfer or a header that is
+ *     passed by value.
  *
  * What is tested at each call, and answered with 1 where it does not hold: the limits of the transfer, marks and counts of the record,
  * its direction, and the length of the data buffer, which is the byte count of the transfer.
@@ -94,7 +95,7 @@ enum ssp_state {
     SSP_STATE_READY = 3       /* it had its ACK: DATA is taken */
 };
 
-/* "Limits of a transfer", and lengths of frames. */
+/* "Limits of a transfer", the greatest TLR CONTROL, and lengths of frames. */
 enum ssp_limit {
     SSP_COUNT_MOST = 16777216,
     SSP_SIZE_LEAST = 4,
@@ -102,6 +103,7 @@ enum ssp_limit {
     SSP_WINDOW_MOST = 64,
     SSP_RETRY_LIMIT_MOST = 15,
     SSP_ADDRESS_MOST = 0xffffff,
+    SSP_TLR_MOST = 3,
     SSP_HEADER_BYTES = 24,
     SSP_IU_MOST = 1024,
     SSP_FRAME_MOST = 1048, /* an output buffer so long is never too short */
@@ -200,6 +202,7 @@ typedef struct ssp_header {
     bool retry;      /* byte 10 bit 2, RETRY DATA FRAMES */
     bool retransmit; /* byte 10 bit 1, RETRANSMIT */
     bool cdp;        /* byte 10 bit 0, CHANGING DATA POINTER */
+    uint8_t tlr;     /* byte 10 bits 4 and 3, TLR CONTROL, 0 to 3: set it, to 0 where nothing is meant; the ports write 0 and act on nothing there */
     uint16_t tag;    /* bytes 16-17 */
     uint16_t tptt;   /* bytes 18-19, target port transfer tag */
     uint32_t offset; /* bytes 20-23, data offset */
@@ -341,8 +344,8 @@ ssp_answer ssp_response_nexus_loss(ssp_responder *responder);
 
 /* ---- Frames by themselves: all five types. ------------------------------------------------------------------------------------------- */
 
-/* Writes header, IU and fill. 1 (another type, an address above 24 bits, an IU over 1,024 bytes), 3, else SSP_FRAME. Output bytes beyond
- * the frame stay as they were. */
+/* Writes header, IU and fill. 1 (another type, an address above 24 bits, TLR CONTROL above 3, an IU over 1,024 bytes), 3, else SSP_FRAME.
+ * Output bytes beyond the frame stay as they were. */
 ssp_answer ssp_frame_write(ssp_header header, const uint8_t *iu, size_t iu_len, uint8_t *out, size_t out_len);
 
 /* The same in two steps, for a port that has the data before the header. Each takes what ssp_frame_write takes, refuses as it does and
@@ -356,7 +359,8 @@ ssp_answer ssp_frame_write_data(ssp_header header, const uint8_t *iu, size_t iu_
  * out + 24). */
 ssp_answer ssp_frame_write_header(ssp_header header, const uint8_t *iu, size_t iu_len, uint8_t *out, size_t out_len);
 
-/* Reads a frame, any bytes. 5, 6, else SSP_PARSED: the IU is len bytes from start, without the fill. */
+/* Reads a frame, any bytes. 5, 6, else SSP_PARSED: the IU is len bytes from start, without the fill. A header that is read and written again
+ * keeps TLR CONTROL and the flags; bits 7 to 5 of byte 10 are reserved and come out zero. */
 ssp_answer ssp_frame_read(ssp_header *header, const uint8_t *bytes, size_t bytes_len);
 
 /* Writes the 12 bytes of an XFER_RDY's IU. 3 (the output buffer is shorter than 12), else SSP_FRAME with len 12. */
@@ -455,6 +459,7 @@ SSP_AT(ssp_header, source, 8);
 SSP_AT(ssp_header, retry, 12);
 SSP_AT(ssp_header, retransmit, 13);
 SSP_AT(ssp_header, cdp, 14);
+SSP_AT(ssp_header, tlr, 15);
 SSP_AT(ssp_header, tag, 16);
 SSP_AT(ssp_header, tptt, 18);
 SSP_AT(ssp_header, offset, 20);

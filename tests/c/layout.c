@@ -1,5 +1,6 @@
 /* Each field that C sets is the one that the library sees: every field of every record is set by itself to a telling value, and an answer,
- * a frame's bytes or the record that is left shows that the library reads it there. All functions are called; the writer's two steps are tried apart. Prints one line. */
+ * a frame's bytes or the record that is left shows that the library reads it there. All functions are called; the writer's two steps are tried
+ * apart. What takes frames is tried with each TLR CONTROL in them: the answers are the same. Prints one line. */
 #include "layout.h"
 #include "layout_read.h"
 #include "layout_write.h"
@@ -15,9 +16,11 @@ int main(void) {
     }
     transfer_fields();
     sender_fields();
-    receiver_fields();
-    writer_fields();
-    target_fields();
+    for (arriving = 0; arriving <= SSP_TLR_MOST; arriving++) {
+        receiver_fields();
+        writer_fields();
+        target_fields();
+    }
     responder_fields();
     header_fields();
     writer_steps();

@@ -26,6 +26,7 @@ static uint8_t data[MOST]; /* sent */
 static uint8_t room[MOST]; /* received */
 static uint8_t out[SSP_FRAME_MOST];
 static uint8_t iu[SSP_FRAME_MOST];
+static uint8_t arriving; /* TLR CONTROL of the frames that arrive */
 
 /* ---- answers, all five fields ---- */
 
@@ -68,7 +69,7 @@ static int same_responder(ssp_responder a, ssp_responder b) {
 }
 static int same_header(ssp_header a, ssp_header b) {
     return a.kind == b.kind && a.dest == b.dest && a.source == b.source && a.retry == b.retry && a.retransmit == b.retransmit &&
-           a.cdp == b.cdp && a.tag == b.tag && a.tptt == b.tptt && a.offset == b.offset;
+           a.cdp == b.cdp && a.tlr == b.tlr && a.tag == b.tag && a.tptt == b.tptt && a.offset == b.offset;
 }
 
 /* ---- records to start from, each in the middle of a transfer, no two marks or counts that could be taken for each other ---- */
@@ -174,6 +175,7 @@ static ssp_answer ask_response(ssp_responder *x) { return ssp_response_next_fram
 static ssp_answer arrive(ssp_receiver *r, uint32_t offset, bool cdp, size_t n, size_t len) {
     ssp_header h = header(SSP_TYPE_DATA, HERE, THERE);
     ssp_answer f;
+    h.tlr = arriving;
     h.cdp = cdp;
     h.offset = offset;
     f = ssp_frame_write(h, data + offset, n, out, sizeof out);
@@ -185,6 +187,7 @@ static ssp_answer arrive(ssp_receiver *r, uint32_t offset, bool cdp, size_t n, s
 static ssp_answer arrive_target(ssp_target *x, uint16_t tptt, uint32_t offset, bool cdp, size_t n, size_t len) {
     ssp_header h = header(SSP_TYPE_DATA, THERE, HERE);
     ssp_answer f;
+    h.tlr = arriving;
     h.cdp = cdp;
     h.offset = offset;
     h.tptt = tptt;
@@ -201,6 +204,7 @@ static ssp_answer arrive_xfer_rdy(ssp_writer *w, uint32_t offset, uint32_t len, 
     ssp_answer f;
     x.offset = offset;
     x.len = len;
+    h.tlr = arriving;
     h.retry = retry;
     h.retransmit = retransmit;
     h.tptt = 0x0506;

@@ -161,8 +161,11 @@ static void sender_fields(void) {
         TRY("an output buffer of 31 bytes", refused(ssp_read_send_next_frame(&s, data, COUNT, out, 31), 3) && same_sender(s, sender()));
         TRY("an output buffer of 32 bytes", framed(ssp_read_send_next_frame(&s, data, COUNT, out, 32), 32));
         s = sender();
-        TRY("31 bytes at a read's target", refused(ssp_read_send_frame(&s, out, 31), 5));
-        TRY("DATA at a read's target", refused(ssp_read_send_frame(&s, out, 32), 6) && same_sender(s, sender()));
+        for (arriving = 0; arriving <= SSP_TLR_MOST; arriving++) {
+            out[10] = (uint8_t)(arriving << 3);
+            TRY("31 bytes at a read's target", refused(ssp_read_send_frame(&s, out, 31), 5) && same_sender(s, sender()));
+            TRY("DATA at a read's target", refused(ssp_read_send_frame(&s, out, 32), 6) && same_sender(s, sender()));
+        }
     }
 }
 
@@ -227,7 +230,9 @@ static void receiver_fields(void) {
     {
         ssp_receiver r = receiver();
         ssp_header h = header(SSP_TYPE_RESPONSE, HERE, THERE);
-        ssp_answer f = ssp_frame_write(h, iu, 25, out, sizeof out);
+        ssp_answer f;
+        h.tlr = arriving;
+        f = ssp_frame_write(h, iu, 25, out, sizeof out);
         TRY("a RESPONSE in a read", is(ssp_read_receive_frame(&r, out, f.len, room, COUNT), SSP_RESPONSE, 0, 0, 24, 25) && r.ended);
         r = receiver();
         f = ssp_frame_write(h, iu, 23, out, sizeof out);

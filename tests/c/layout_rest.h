@@ -64,7 +64,7 @@ static void responder_fields(void) {
 
 static void header_fields(void) {
     static const uint8_t rung[24] = {0x01, 0x12, 0x34, 0x56, 0, 0xAB, 0xCD, 0xEF, 0, 0, 0, 0, 0, 0, 0, 0, 0, 0x12, 0, 0, 0, 0, 0, 4};
-    ssp_header h = header(SSP_TYPE_DATA, 0x123456, 0xABCDEF), back = h;
+    ssp_header h = header(SSP_TYPE_DATA, 0x123456, 0xABCDEF), back = h, other;
     ssp_xfer_rdy x, y;
 
     h.offset = 4;
@@ -81,6 +81,9 @@ static void header_fields(void) {
     HEADER(retry, true, be(8, 4) == 0x0400);
     HEADER(retransmit, true, be(8, 4) == 0x0200);
     HEADER(cdp, true, be(8, 4) == 0x0100);
+    HEADER(tlr, 1, be(8, 4) == 0x0800);
+    HEADER(tlr, 2, be(8, 4) == 0x1000);
+    HEADER(tlr, SSP_TLR_MOST, be(8, 4) == 0x1800);
     HEADER(tag, 0x0708, be(16, 4) == 0x07080000 && be(20, 4) == 0);
     HEADER(tptt, 0x090A, be(16, 4) == 0x090A && be(20, 4) == 0);
     HEADER(offset, 0x0B0C0D0E, be(20, 4) == 0x0B0C0D0E && be(16, 4) == 0);
@@ -95,9 +98,20 @@ static void header_fields(void) {
     h.source = 0x1000000;
     TRY("ssp_header.source = 0x1000000", refused(ssp_frame_write(h, iu, 0, out, sizeof out), 1));
     h.source = 0;
+    h.tlr = 4;
+    TRY("ssp_header.tlr = 4", refused(ssp_frame_write(h, iu, 0, out, sizeof out), 1));
+    h.tlr = 255;
+    TRY("ssp_header.tlr = 255", refused(ssp_frame_write(h, iu, 0, out, sizeof out), 1));
+    h.tlr = 0;
     TRY("an IU of 1,024 bytes", framed(ssp_frame_write(h, iu, 1024, out, sizeof out), 1048));
     TRY("an IU of 1,025 bytes", refused(ssp_frame_write(h, iu, 1025, out, sizeof out), 1));
     TRY("an output buffer of 23 bytes", refused(ssp_frame_write(h, iu, 0, out, 23), 3));
+    ssp_frame_write(h, iu, 0, out, sizeof out);
+    out[10] = 0xF7;
+    h.tlr = 2;
+    h.retry = h.retransmit = h.cdp = true;
+    memset(&other, 0, sizeof other);
+    TRY("byte 10 = F7h read", is(ssp_frame_read(&other, out, 24), SSP_PARSED, 0, 0, 24, 0) && same_header(h, other));
     h = back;
     out[0] = 2;
     TRY("a frame of type 2", refused(ssp_frame_read(&back, out, 24), 6) && same_header(h, back));
@@ -144,10 +158,11 @@ static int steps_refuse(ssp_header h, size_t len, size_t space, unsigned number)
 
 static void writer_steps(void) {
     /* every field but RETRANSMIT other than zero, six bytes of `data`, two of fill */
-    static const uint8_t frame[32] = {0x16, 1, 2, 3, 0, 4, 5, 6, 0, 0, 5, 2, 0, 0, 0, 0, 7, 8, 9, 10, 11, 12, 13, 14, /* header */
+    static const uint8_t frame[32] = {0x16, 1, 2, 3, 0, 4, 5, 6, 0, 0, 0x15, 2, 0, 0, 0, 0, 7, 8, 9, 10, 11, 12, 13, 14, /* header */
                                       1, 2, 3, 4, 5, 6, 0, 0};
     ssp_header h = header(SSP_TYPE_TASK, 0x010203, 0x040506), other;
     h.retry = h.cdp = true;
+    h.tlr = 2;
     h.tag = 0x0708;
     h.tptt = 0x090A;
     h.offset = 0x0B0C0D0E;
@@ -189,4 +204,7 @@ static void writer_steps(void) {
     other = h;
     other.source = 0x1000000;
     TRY("a source above 24 bits: 1 of each step", steps_refuse(other, 4, sizeof out, 1) && steps_refuse(other, 4, 24, 1));
+    other = h;
+    other.tlr = 4;
+    TRY("TLR CONTROL above 3: 1 of each step", steps_refuse(other, 4, sizeof out, 1) && steps_refuse(other, 4, 24, 1));
 }

@@ -83,7 +83,9 @@ static void writer_fields(void) {
     {
         ssp_writer w = writer();
         ssp_header h = header(SSP_TYPE_RESPONSE, HERE, THERE);
-        ssp_answer f = ssp_frame_write(h, iu, 25, out, sizeof out);
+        ssp_answer f;
+        h.tlr = arriving;
+        f = ssp_frame_write(h, iu, 25, out, sizeof out);
         w.sender.frames = MANY;
         TRY("a RESPONSE in a write", is(ssp_write_send_frame(&w, out, f.len), SSP_RESPONSE, 0, MANY, 24, 25) && w.sender.ended);
         w = writer();

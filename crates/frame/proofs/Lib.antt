@@ -6,3 +6,4 @@ pub mod TwoSteps
 pub mod Digits
 pub mod RoundTrip
 pub mod Hands
+pub mod TlrControl

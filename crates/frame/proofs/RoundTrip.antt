@@ -1,5 +1,5 @@
 -- The round trips of specs/RoundTrip.antt.
-use Prim.Native.Nat.{ℕ, zero, suc, _+_, _-_, _%_, _^_, _≤_, _<_}
+use Prim.Native.Nat.{ℕ, zero, suc, _+_, _-_, _/_, _%_, _^_, _≤_, _<_}
 use mathlib.Core.List.{List, [], _∷_, _++_}
 use mathlib.Core.Bool.{Bool, true, false}
 use mathlib.Core.Path.{_≡_, refl, sym, ap, subst, _∙_}
@@ -14,7 +14,7 @@ use Rattle.status.specs.Pick.{pick}
 use Rattle.status.specs.Outcome.{Outcome}
 use Rattle.status.proofs.Choose.{each, in-true}
 use Rattle.status.proofs.Opened.{differ}
-use Rattle.frame.specs.Format.{isType, field, fillOf, headerBytes, dataBytes, encode}
+use Rattle.frame.specs.Format.{isType, field, flagsOf, fillOf, headerBytes, dataBytes, encode}
 use Rattle.frame.specs.Write.{request, writable}
 use Rattle.frame.specs.Read.{fillCount, headerIn, wellFormed, iuLength, iuOf, parsed, decode}
 use Rattle.frame.specs.Reserved.{bytesAt, cleared, kept}
@@ -32,12 +32,13 @@ pub record Writable (h : Header) (n : ℕ) : Type 0 where
   pub kind : isType (h .kind) ≡ true
   pub dest : h .dest < 2 ^ 24
   pub source : h .source < 2 ^ 24
+  pub tlr : h .flags .tlr < 4
   pub most : n ≤ 1024
 
 pub writable-gives : (h : Header) (n : ℕ) → writable h n ≡ true → Writable h n
 writable-gives h n e =
     let t = each (request h n) e in
-    record { kind = t .0; dest = omega (arith, ltb-true); source = omega (arith, ltb-true); most = omega (arith, leb-true) }
+    record { kind = t .0; dest = omega (arith, ltb-true); source = omega (arith, ltb-true); tlr = omega (arith, ltb-true); most = omega (arith, leb-true) }
 
 module _ (h : Header) (iu : List ℕ) where
   fill-back : fillCount (encode h iu) ≡ fillOf (length iu)
@@ -54,7 +55,7 @@ module _ (h : Header) (iu : List ℕ) where
         kind = h .kind;
         dest = field-digits 3 (h .dest) [] (w .dest) i;
         source = field-digits 3 (h .source) [] (w .source) i;
-        flags = flags-back (h .flags) i;
+        flags = flags-back (h .flags) (w .tlr) i;
         tag = field-digits 2 (h .tag) [] (r .tag) i;
         tptt = field-digits 2 (h .tptt) [] (r .tptt) i;
         offset = field-digits 4 (h .offset) [] (r .offset) i;
@@ -125,10 +126,10 @@ module _ (b : List ℕ) (small : Bytes b) (f : Formed b) where
   frame-again = rw fill-again (ap (λ (x : List ℕ). x ++ (iuOf b ++ replicate (fillCount b) 0)) header-again)
 
   writable-again : isType (getD b 0 0) ≡ true → writable (headerIn b) (iuLength b) ≡ true
-  unfolding headerIn
+  unfolding headerIn flagsOf
   writable-again k =
       let m = f .most in
-      simp (k, lt-ltb (field b 1 3) (2 ^ 24) (field-fits b small 1 3), lt-ltb (field b 5 3) (2 ^ 24) (field-fits b small 5 3), le-leb (iuLength b) 1024 (omega arith))
+      simp (k, lt-ltb (field b 1 3) (2 ^ 24) (field-fits b small 1 3), lt-ltb (field b 5 3) (2 ^ 24) (field-fits b small 5 3), lt-ltb (getD b 10 0 / 8 % 4) 4 (omega arith), le-leb (iuLength b) 1024 (omega arith))
 
 pub written-again : WrittenAgain
 written-again b p small e =

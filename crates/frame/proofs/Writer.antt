@@ -48,7 +48,7 @@ laid iu d y w f within ef ey ew =
 
 -- an IU that the writer takes
 pub short-iu : (h : Header) (n : ℕ) → writable h n ≡ true → n ≤ 1_024
-short-iu h n w = leb-true _ _ (each (request h n) w .1 .1 .1 .0)
+short-iu h n w = leb-true _ _ (each (request h n) w .1 .1 .1 .1 .0)
 
 -- each answer, by the lengths of IU and output buffer
 module _ (h : Header) (n room : ℕ) where

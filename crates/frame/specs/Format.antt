@@ -35,16 +35,17 @@ abbrev pub field : List ℕ → ℕ → ℕ → ℕ
 field b i zero = 0
 field b i (suc n) = field b i n * 256 + getD b (i + n) 0
 
--- "bit 2 RETRY DATA FRAMES, bit 1 RETRANSMIT, bit 0 CHANGING DATA POINTER (CDP)"
+-- a flag as a bit
 abbrev pub bit : Bool → ℕ
 bit true = 1
 bit false = 0
 
+-- byte 10: "bit 2 RETRY DATA FRAMES, bit 1 RETRANSMIT, bit 0 CHANGING DATA POINTER (CDP)"; request K8: "bits 4 and 3 .. TLR CONTROL", a number of two bits
 unfoldable pub flagByte : Flags → ℕ
-flagByte f = bit (f .retry) * 4 + bit (f .retransmit) * 2 + bit (f .cdp)
+flagByte f = f .tlr % 4 * 8 + bit (f .retry) * 4 + bit (f .retransmit) * 2 + bit (f .cdp)
 
 unfoldable pub flagsOf : ℕ → Flags
-flagsOf b = record { retry = eqb (b / 4 % 2) 1; retransmit = eqb (b / 2 % 2) 1; cdp = eqb (b % 2) 1 }
+flagsOf b = record { tlr = b / 8 % 4; retry = eqb (b / 4 % 2) 1; retransmit = eqb (b / 2 % 2) 1; cdp = eqb (b % 2) 1 }
 
 -- "then fill to a multiple of four": the number of fill bytes after an IU of n bytes
 abbrev pub fillOf : ℕ → ℕ

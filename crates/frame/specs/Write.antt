@@ -13,9 +13,9 @@ use Rattle.frame.specs.declared.types.Header.{Header}
 use Rattle.frame.specs.declared.types.Written.{Written}
 use Rattle.frame.specs.declared.types.Written.the-variants.{Frame, Refused}
 
--- "the writer 1 (also for another type or an IU over 1,024 bytes)": a hashed address has 24 bits
+-- "the writer 1 (also for another type or an IU over 1,024 bytes)": a hashed address has 24 bits; request K8: TLR CONTROL is 0 to 3, "the writer refuses a larger number by 1"
 abbrev pub request : Header → ℕ → List Bool
-request h n = isType (h .kind) ∷ ltb (h .dest) (2 ^ 24) ∷ ltb (h .source) (2 ^ 24) ∷ leb n 1_024 ∷ []
+request h n = isType (h .kind) ∷ ltb (h .dest) (2 ^ 24) ∷ ltb (h .source) (2 ^ 24) ∷ ltb (h .flags .tlr) 4 ∷ leb n 1_024 ∷ []
 
 abbrev pub writable : Header → ℕ → Bool
 writable h n = all (request h n)

@@ -40,10 +40,11 @@ pub(crate) fn low_two_bits(x: u8) -> u8
 pub(crate) fn flag_byte(f: Flags) -> u8
     ensures { λ r. ⌜ r ≡ flagByte f ⌝ }
 {
+    let tlr = low_two_bits(f.tlr);
     let retry = f.retry as u8;
     let retransmit = f.retransmit as u8;
     let cdp = f.cdp as u8;
-    (retry << 2) | (retransmit << 1) | cdp
+    (tlr << 3) | (retry << 2) | (retransmit << 1) | cdp
 }
 
 // Byte 10, taken apart.
@@ -51,6 +52,7 @@ pub(crate) fn flags_of(b: u8) -> Flags
     ensures { λ r. ⌜ r ≡ flagsOf b ⌝ }
 {
     Flags {
+        tlr: low_two_bits(b >> 3),
         retry: low_bit(b >> 2) == 1,
         retransmit: low_bit(b >> 1) == 1,
         cdp: low_bit(b) == 1,

@@ -54,7 +54,8 @@ pub(crate) fn can_write(h: Header, n: usize) -> bool
     ensures { λ r. ⌜ r ≡ writable h n ⌝ }
 {
     let known = byte::known(h.kind);
-    known & (h.dest < 0x100_0000) & (h.source < 0x100_0000) & (n <= 1024)
+    let flags = h.flags;
+    known & (h.dest < 0x100_0000) & (h.source < 0x100_0000) & (flags.tlr < 4) & (n <= 1024)
 }
 
 // Puts src down at `at`.

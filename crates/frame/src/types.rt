@@ -15,6 +15,8 @@ pub const TASK: u8 = 0x16;
 
 // Byte 10.
 pub struct Flags {
+    // TLR CONTROL, 0 to 3
+    pub tlr: u8,
     // RETRY DATA FRAMES
     pub retry: bool,
     pub retransmit: bool,

@@ -9,3 +9,4 @@ pub mod WriteTold
 pub mod WriteSame
 pub mod WriteEnded
 pub mod WriteKept
+pub mod TlrControl

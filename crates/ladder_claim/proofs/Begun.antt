@@ -128,7 +128,7 @@ module _ (r : Run) where
   issues i = record { receiver = receiver.beginning there 0 (whole-count i); state = UNANSWERED; tptt = 0; retries = 0; stored = false; under = 0; since = 1 }
 
   abbrev head : Header
-  head = record { kind = XFER-RDY; dest = INITIATOR; source = TARGET; flags = record { retry = ltb 0 (r .limit); retransmit = false; cdp = false }; tag = TAG; tptt = 0; offset = 0 }
+  head = record { kind = XFER-RDY; dest = INITIATOR; source = TARGET; flags = record { tlr = 0; retry = ltb 0 (r .limit); retransmit = false; cdp = false }; tag = TAG; tptt = 0; offset = 0 }
 
   abbrev asked : XferRdy
   asked = record { offset = 0; len = r .count }

@@ -19,6 +19,7 @@ pub mod ReadSimulates
 pub mod WriteSimulates
 pub mod Exchange
 pub mod Theorem
+pub mod TakenAlike
 pub mod Worked
 pub mod WorkedFaults
 pub mod WorkedWrite

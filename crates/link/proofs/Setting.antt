@@ -93,7 +93,7 @@ module _ (S : Setting) where
         kind = DATA;
         dest = S .t .remote;
         source = S .t .local;
-        flags = record { retry = false; retransmit = false; cdp = c };
+        flags = record { tlr = 0; retry = false; retransmit = false; cdp = c };
         tag = S .t .tag;
         tptt = S .tptt;
         offset = place i;
@@ -125,7 +125,7 @@ module _ (S : Setting) where
         kind = DATA;
         dest = c .transfer i .remote;
         source = c .transfer i .local;
-        flags = record { retry = false; retransmit = false; cdp = s .cdp };
+        flags = record { tlr = 0; retry = false; retransmit = false; cdp = s .cdp };
         tag = c .transfer i .tag;
         tptt = c .tptt i;
         offset = e i;

@@ -5,6 +5,7 @@ pub mod Delivers
 pub mod Reading
 pub mod Writing
 pub mod Claim
+pub mod TakenAlike
 pub mod Worked
 pub mod WorkedFaults
 pub mod WorkedWrite

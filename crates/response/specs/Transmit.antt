@@ -21,14 +21,14 @@ lentTests x n = holdsOf x ∷ eqb n (x .len) ∷ []
 unfoldable pub lentOf : Responder → ℕ → Bool
 lentOf x n = all (lentTests x n)
 
--- "The ports write .. RESPONSE with TPTT zero"; "data offset zero outside DATA"; resent with RETRANSMIT one, the rest the same
+-- "The ports write .. RESPONSE with TPTT zero"; "data offset zero outside DATA"; resent with RETRANSMIT one, the rest the same; TLR CONTROL zero (request K8)
 unfoldable pub responseHeader : Responder → Header
 responseHeader x =
     record {
       kind = RESPONSE;
       dest = x .transfer .remote;
       source = x .transfer .local;
-      flags = record { retry = false; retransmit = ltb 0 (x .retries); cdp = false };
+      flags = record { tlr = 0; retry = false; retransmit = ltb 0 (x .retries); cdp = false };
       tag = x .transfer .tag;
       tptt = 0;
       offset = 0;

@@ -33,6 +33,7 @@ fn header(x: Responder) -> Header
         dest: t.remote,
         source: t.local,
         flags: Flags {
+            tlr: 0,
             retry: false,
             retransmit: 0 < x.retries,
             cdp: false,

@@ -29,14 +29,14 @@ waitsOf s = s .nak || leb (s .transfer .window) (s .unanswered) || eqb (s .next)
 abbrev pub lesser : Sender → ℕ
 lesser s = min (s .transfer .size) (s .burst .end - s .next)
 
--- "The ports write read DATA .. with TPTT zero"; "write DATA carries the TPTT of its burst's XFER_RDY"; flags that are not named are zero
+-- "The ports write read DATA .. with TPTT zero"; "write DATA carries the TPTT of its burst's XFER_RDY"; flags that are not named are zero, and so is TLR CONTROL (request K8: "the ports write 0")
 unfoldable pub dataHeader : Sender → Header
 dataHeader s =
     record {
       kind = DATA;
       dest = s .transfer .remote;
       source = s .transfer .local;
-      flags = record { retry = false; retransmit = false; cdp = s .cdp };
+      flags = record { tlr = 0; retry = false; retransmit = false; cdp = s .cdp };
       tag = s .transfer .tag;
       tptt = pick (s .transfer .write) (s .burst .tptt) 0;
       offset = s .next;

@@ -65,6 +65,7 @@ fn header(s: Sender) -> Header
         dest: t.remote,
         source: t.local,
         flags: Flags {
+            tlr: 0,
             retry: false,
             retransmit: false,
             cdp: s.cdp,

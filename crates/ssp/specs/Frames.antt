@@ -14,14 +14,14 @@ use Rattle.ssp.specs.declared.types.Told.{Told}
 use Rattle.ssp.specs.declared.types.Header.{Header}
 use Rattle.ssp.specs.declared.types.XferRdy.{XferRdy}
 
--- a header with the flags in it is the frame's header, and back
+-- a header with TLR CONTROL and the flags in it is the frame's header, and back
 abbrev pub framed : Header → frame-header.Header
 framed h =
     record {
       kind = h .kind;
       dest = h .dest;
       source = h .source;
-      flags = record { retry = h .retry; retransmit = h .retransmit; cdp = h .cdp };
+      flags = record { tlr = h .tlr; retry = h .retry; retransmit = h .retransmit; cdp = h .cdp };
       tag = h .tag;
       tptt = h .tptt;
       offset = h .offset;
@@ -36,6 +36,7 @@ flat h =
       retry = h .flags .retry;
       retransmit = h .flags .retransmit;
       cdp = h .flags .cdp;
+      tlr = h .flags .tlr;
       tag = h .tag;
       tptt = h .tptt;
       offset = h .offset;

@@ -29,6 +29,7 @@ fn framed(h: Header) -> frame::Header
         dest: h.dest,
         source: h.source,
         flags: Flags {
+            tlr: h.tlr,
             retry: h.retry,
             retransmit: h.retransmit,
             cdp: h.cdp,
@@ -50,6 +51,7 @@ fn flat(h: frame::Header) -> Header
         retry: flags.retry,
         retransmit: flags.retransmit,
         cdp: flags.cdp,
+        tlr: flags.tlr,
         tag: h.tag,
         tptt: h.tptt,
         offset: h.offset,

@@ -109,6 +109,8 @@ pub struct Header {
     pub retransmit: bool,
     // CHANGING DATA POINTER
     pub cdp: bool,
+    // TLR CONTROL, 0 to 3
+    pub tlr: u8,
     pub tag: u16,
     // target port transfer tag
     pub tptt: u16,

@@ -38,14 +38,14 @@ burstOf x = pick (eqb (x .state) AGAIN) x (nextBurst x)
 unfoldable pub issuedOf : Target → Target
 issuedOf x = burstOf x with state≔ UNANSWERED with tptt≔ (lowest (used (x .stored) (x .under) (x .since))) with since≔ (x .since + 1)
 
--- the XFER_RDY that y hands out: "with RETRY DATA FRAMES one if retries are on"; RETRANSMIT one if it is sent again; data offset zero
+-- the XFER_RDY that y hands out: "with RETRY DATA FRAMES one if retries are on"; RETRANSMIT one if it is sent again; TLR CONTROL (request K8) and data offset zero
 unfoldable pub xferRdyHeader : Target → Bool → Header
 xferRdyHeader y again =
     record {
       kind = XFER-RDY;
       dest = y .receiver .transfer .remote;
       source = y .receiver .transfer .local;
-      flags = record { retry = ltb 0 (y .receiver .transfer .limit); retransmit = again; cdp = false };
+      flags = record { tlr = 0; retry = ltb 0 (y .receiver .transfer .limit); retransmit = again; cdp = false };
       tag = y .receiver .transfer .tag;
       tptt = y .tptt;
       offset = 0;

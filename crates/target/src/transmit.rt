@@ -91,6 +91,7 @@ fn header(y: Target, again: bool) -> Header
         dest: t.remote,
         source: t.local,
         flags: Flags {
+            tlr: 0,
             retry: 0 < t.limit,
             retransmit: again,
             cdp: false,

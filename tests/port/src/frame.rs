@@ -35,6 +35,7 @@ pub fn header_of(bytes: &[u8]) -> Header {
         retry: bytes[10] & 4 != 0,
         retransmit: bytes[10] & 2 != 0,
         cdp: bytes[10] & 1 != 0,
+        tlr: bytes[10] >> 3 & 3,
         tag: number(&bytes[16..18]) as u16,
         tptt: number(&bytes[18..20]) as u16,
         offset: number(&bytes[20..24]),
@@ -58,9 +59,10 @@ pub fn room(iu: usize) -> usize {
     24 + iu.div_ceil(4) * 4
 }
 
-/// Bytes of the frame that is due, else 1 or 3; the writer and its steps refuse alike.
+/// Bytes of the frame that is due, else 1 (K8: also a TLR CONTROL above 3) or 3; the writer and its steps refuse alike.
 fn due(header: &Header, iu: &[u8], out: &[u8]) -> Result<usize, u8> {
-    if !known(header.kind) || header.dest >= 1 << 24 || header.source >= 1 << 24 || iu.len() > 1024 {
+    let fits = header.dest < 1 << 24 && header.source < 1 << 24 && header.tlr <= 3;
+    if !known(header.kind) || !fits || iu.len() > 1024 {
         return Err(1);
     }
     let len = room(iu.len());
@@ -93,7 +95,7 @@ pub fn write_header(header: &Header, iu: &[u8], out: &mut [u8]) -> Answer {
     out[0] = header.kind;
     out[1..4].copy_from_slice(&header.dest.to_be_bytes()[1..]);
     out[5..8].copy_from_slice(&header.source.to_be_bytes()[1..]);
-    out[10] = u8::from(header.retry) * 4 + u8::from(header.retransmit) * 2 + u8::from(header.cdp);
+    out[10] = header.tlr * 8 + u8::from(header.retry) * 4 + u8::from(header.retransmit) * 2 + u8::from(header.cdp);
     out[11] = (len - 24 - iu.len()) as u8;
     out[16..18].copy_from_slice(&header.tag.to_be_bytes());
     out[18..20].copy_from_slice(&header.tptt.to_be_bytes());

@@ -137,6 +137,7 @@ pub struct Header {
     pub retry: bool,
     pub retransmit: bool,
     pub cdp: bool,
+    pub tlr: u8,
     pub tag: u16,
     pub tptt: u16,
     pub offset: u32,

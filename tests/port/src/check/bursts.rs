@@ -10,7 +10,7 @@ fn data(offset: u32, flags: u8, tptt: u16, byte: u8, len: usize) -> Vec<u8> {
 }
 
 /// A target of twelve bytes whose second XFER_RDY, for 4 to 8 under tag 1, had its ACK.
-fn second(name: &'static str, limit: u32) -> Result<Script, String> {
+pub(super) fn second(name: &'static str, limit: u32) -> Result<Script, String> {
     let mut s = open(name, 12, limit, 4)?;
     s.arrives(data(0, 0, 0, 7, 4), (RECEIVED, 0))?;
     s.frame(4, if limit > 0 { 4 } else { 0 }, 1)?;

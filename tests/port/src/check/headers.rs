@@ -7,28 +7,28 @@ use crate::records::*;
 use crate::{ffi, frame};
 
 /// A header as `bytes` makes it.
-fn header(kind: u8, flags: u8, tptt: u16, offset: u32) -> Header {
+pub(super) fn header(kind: u8, flags: u8, tptt: u16, offset: u32) -> Header {
     let [retry, retransmit, cdp] = [flags & 4 != 0, flags & 2 != 0, flags & 1 != 0];
-    Header { kind, dest: 0xab_cdef, source: 0x12_3456, retry, retransmit, cdp, tag: 0x12, tptt, offset }
+    Header { kind, dest: 0xab_cdef, source: 0x12_3456, retry, retransmit, cdp, tlr: flags >> 3, tag: 0x12, tptt, offset }
 }
 
-/// Every reserved bit of the header one: bytes 4, 8, 9, 12 to 15, bits 7 to 3 of byte 10, bits 7 to 2 of byte 11.
-fn reserved(mut f: Vec<u8>) -> Vec<u8> {
+/// Every reserved bit of the header one: bytes 4, 8, 9, 12 to 15, bits 7 to 5 of byte 10, bits 7 to 2 of byte 11.
+pub(super) fn reserved(mut f: Vec<u8>) -> Vec<u8> {
     for at in [4, 8, 9, 12, 13, 14, 15] {
         f[at] = 0xff;
     }
-    f[10] |= 0xf8;
+    f[10] |= 0xe0;
     f[11] |= 0xfc;
     f
 }
 
-fn with(mut f: Vec<u8>, at: usize, byte: u8) -> Vec<u8> {
+pub(super) fn with(mut f: Vec<u8>, at: usize, byte: u8) -> Vec<u8> {
     f[at] = byte;
     f
 }
 
 /// The frame reader at both sides.
-fn reads(f: &[u8], due: Header, len: usize) -> Result<u64, String> {
+pub(super) fn reads(f: &[u8], due: Header, len: usize) -> Result<u64, String> {
     let (mut x, mut y) = (Header::default(), Header::default());
     let a = frame::read(&mut x, f);
     let b = unsafe { ffi::ssp_frame_read(&mut y, f.as_ptr(), f.len()) };
@@ -148,23 +148,23 @@ fn fields() -> Result<u64, String> {
 
 fn byte_10() -> Result<u64, String> {
     let mut n = 0;
-    // 003, table 92: bits 2, 1, 0 of byte 10, and no other bit of the header is written.
-    for flags in 0..8 {
+    // 003, table 92: bits 2, 1, 0 of byte 10; K8: bits 4 and 3 too; no other bit of the header is written.
+    for flags in 0..32 {
         for kind in [1, 5, 6, 7, 0x16] {
             let mut due =
                 [kind, 0xab, 0xcd, 0xef, 0, 0x12, 0x34, 0x56, 0, 0, flags, 2, 0, 0, 0, 0, 0, 0x12, 0xff, 0xfe, 0, 0, 0, 9, 8, 8, 0, 0];
             n += writes(header(kind, flags, 0xfffe, 9), &[8; 2], &due)?;
             // 002, 1.0.0.1.2: reserved fields may be tested for zero; 01: they are ignored.
             n += reads(&reserved(due.to_vec()), header(kind, flags, 0xfffe, 9), 2)?;
-            for bit in 3..8 {
+            for bit in 5..8 {
                 due[10] = flags | 1 << bit;
                 n += reads(&due, header(kind, flags, 0xfffe, 9), 2)?;
             }
         }
     }
-    // The same at each role: the reserved bits change nothing, one by one in byte 10 (bit 8: all) or everywhere.
+    // At each role the reserved bits change nothing, nor (K8) do bits 4 and 3, one by one in byte 10; bit 8: all of them, everywhere.
     for bit in 3..9 {
-        let mark = |f: Vec<u8>| if bit < 8 { with(f.clone(), 10, f[10] | 1 << bit) } else { reserved(f) };
+        let mark = |f: Vec<u8>| if bit < 8 { with(f.clone(), 10, f[10] | 1 << bit) } else { reserved(with(f.clone(), 10, f[10] | 0x18)) };
         let mut s = read_receiver("002 reserved, read", 12, 1)?;
         s.arrives(mark(bytes(1, 0, 0, 0, &[7; 4])), (STORED, 0))?;
         s.arrives(mark(bytes(1, 8, 0, 0, &[9; 3])), (DISCARDED, 0))?;

@@ -9,6 +9,8 @@ pub mod single;
 pub mod sources;
 pub mod states;
 pub mod steps;
+pub mod tlr;
+mod tlr_ports;
 pub mod tree;
 pub mod vectors;
 pub mod world;

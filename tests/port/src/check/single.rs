@@ -54,6 +54,8 @@ pub fn bytes(g: &mut Rng, rec: &Rec) -> Vec<u8> {
         7 => g.of(&[0, 23, 24, 25, 1024]),
         _ => g.of(&[0, 1, 2, 3, 4, 4, 4, 8, left as usize, left as usize, (left as usize + 1).min(1024)]),
     };
+    // From a generator of its own, so that the other numbers stay those of the seed.
+    let tlr = Rng(!g.0).up_to(3) as u8;
     let h = Header {
         kind: if g.one_in(20) { g.of(&[6, 0x16]) } else { kind },
         dest: (if g.one_in(20) { t.remote } else { t.local }) & 0xff_ffff,
@@ -61,6 +63,7 @@ pub fn bytes(g: &mut Rng, rec: &Rec) -> Vec<u8> {
         retry: g.one_in(2),
         retransmit: g.one_in(2),
         cdp: g.one_in(3),
+        tlr,
         tag: if g.one_in(20) { t.tag ^ 1 } else { t.tag },
         tptt: if g.one_in(10) { tptt ^ 1 } else { tptt },
         offset: if kind == 1 { offset } else { 0 },
@@ -108,6 +111,10 @@ fn call(g: &mut Rng, rec: &Rec, kind: u64, room: usize) -> Call {
 
 /// The frame reader and writer, XFER_RDY's IU, and the writer's two steps. Calls compared.
 fn frames(g: &mut Rng) -> Result<u64, String> {
+    // Mostly one that is taken; from a generator of its own, as above.
+    let own = &mut Rng(!g.0);
+    let larger = 4 + own.up_to(251) as u8;
+    let tlr = if own.one_in(8) { own.of(&[4, larger, 255]) } else { own.up_to(3) as u8 };
     let kind = g.of(&[1, 5, 6, 7, 0x16, 0, 2, 255]);
     let h = Header {
         kind,
@@ -116,6 +123,7 @@ fn frames(g: &mut Rng) -> Result<u64, String> {
         retry: g.one_in(2),
         retransmit: g.one_in(2),
         cdp: g.one_in(2),
+        tlr,
         tag: g.next() as u16,
         tptt: g.next() as u16,
         offset: g.next() as u32,

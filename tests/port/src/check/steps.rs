@@ -5,18 +5,18 @@ use crate::{ffi, frame};
 use std::ops::Range;
 
 /// The most that is lent; the bytes past the room must stay too.
-const ROOM: usize = 1092;
+pub(super) const ROOM: usize = 1092;
 const SPACE: usize = ROOM + 8;
-type Bytes = [u8; SPACE];
+pub(super) type Bytes = [u8; SPACE];
 /// What a call left.
-type Left = (Answer, Bytes);
+pub(super) type Left = (Answer, Bytes);
 
 /// The calls, by the parts of the frame that each puts down: after two calls the parts of both are there.
-const DATA: usize = 1;
-const HEADER: usize = 2;
-const WRITER: usize = 3;
-const CALLS: [usize; 3] = [DATA, HEADER, WRITER];
-const NAMES: [&str; 4] = ["no call", "data step", "header step", "writer"];
+pub(super) const DATA: usize = 1;
+pub(super) const HEADER: usize = 2;
+pub(super) const WRITER: usize = 3;
+pub(super) const CALLS: [usize; 3] = [DATA, HEADER, WRITER];
+pub(super) const NAMES: [&str; 4] = ["no call", "data step", "header step", "writer"];
 
 /// One call at the port and at the library, which is lent the first `room` bytes.
 fn both(step: usize, h: &Header, iu: &[u8], room: usize, before: &Bytes) -> [Left; 2] {
@@ -37,7 +37,7 @@ fn both(step: usize, h: &Header, iu: &[u8], room: usize, before: &Bytes) -> [Lef
 }
 
 /// What the output holds before. The two differ in every byte and have no zero, so that a byte cleared, written or left by mistake shows.
-fn background(name: &str) -> Bytes {
+pub(super) fn background(name: &str) -> Bytes {
     std::array::from_fn(|i| if name == "ones" { 0xff } else { (i % 251) as u8 + 1 })
 }
 
@@ -47,19 +47,19 @@ fn kept(before: &Bytes, after: &Bytes, part: Range<usize>) -> bool {
 }
 
 #[derive(Clone, Copy)]
-struct Case<'a> {
-    header: Header,
-    iu: &'a [u8],
-    room: usize,
-    background: &'static str,
+pub(super) struct Case<'a> {
+    pub(super) header: Header,
+    pub(super) iu: &'a [u8],
+    pub(super) room: usize,
+    pub(super) background: &'static str,
 }
 
 impl Case<'_> {
-    fn fault(&self, what: String) -> String {
+    pub(super) fn fault(&self, what: String) -> String {
         format!("{what}\n  {:?}, IU of {}, room {}, background: {}", self.header, self.iu.len(), self.room, self.background)
     }
-    /// The call `step` at both sides; `earlier` is the call that left `before`.
-    fn call(&self, earlier: usize, step: usize, before: &Bytes) -> Result<Left, String> {
+    /// The call `step` at both sides, and what the library left; `earlier` is the call that left `before`.
+    pub(super) fn call(&self, earlier: usize, step: usize, before: &Bytes) -> Result<Left, String> {
         let [(a, x), (b, y)] = both(step, &self.header, self.iu, self.room, before);
         if a == b && x == y {
             return Ok((b, y));
@@ -85,7 +85,7 @@ impl Case<'_> {
         Ok(())
     }
     /// Calls compared. `other` is an IU of the same length.
-    fn tried(&self, other: &[u8]) -> Result<u64, String> {
+    pub(super) fn tried(&self, other: &[u8]) -> Result<u64, String> {
         let before = background(self.background);
         let mut left = [(Answer::default(), before); 4];
         for step in CALLS {
@@ -120,23 +120,25 @@ impl Case<'_> {
 }
 
 /// Every bit one that may be, but for the type.
-const MOST: Header = Header {
+pub(super) const MOST: Header = Header {
     kind: frame::TASK,
     dest: 0xff_ffff,
     source: 0xff_ffff,
     retry: true,
     retransmit: true,
     cdp: true,
+    tlr: 3,
     tag: 0xffff,
     tptt: 0xffff,
     offset: u32::MAX,
 };
 
-/// A header with bytes that differ; types and flags change with n, all 40 together.
-fn header(n: usize) -> Header {
+/// A header with bytes that differ; with n the types and the five bits of byte 10 change, all 160 together.
+pub(super) fn header(n: usize) -> Header {
     let kind = [frame::DATA, frame::XFER_RDY, frame::COMMAND, frame::RESPONSE_TYPE, frame::TASK][n % 5];
     let [retry, retransmit, cdp] = [n & 4 != 0, n & 2 != 0, n & 1 != 0];
-    Header { kind, dest: 0x12_3456, source: 0xab_cdef, retry, retransmit, cdp, tag: 0x7172, tptt: 0x8384, offset: 0x9596_9798 }
+    let tlr = (n >> 3 & 3) as u8;
+    Header { kind, dest: 0x12_3456, source: 0xab_cdef, retry, retransmit, cdp, tlr, tag: 0x7172, tptt: 0x8384, offset: 0x9596_9798 }
 }
 
 /// An IU, and one that differs from it in every byte. Both go on behind the part that is lent: no fill comes from there.
@@ -195,7 +197,7 @@ fn headers(s: &Source) -> Result<u64, String> {
             }
         }
     }
-    for k in 0..40 {
+    for k in 0..160 {
         n += at(header(k), 5)?;
     }
     for [tag, tptt] in [[0, 0], [0, 0xffff], [0xffff, 0], [0xffff, 0xffff], [0x00ff, 0xff00]] {
@@ -214,7 +216,7 @@ pub fn all() -> Result<u64, String> {
 }
 
 /// One call over `before`, at both sides with the answer and the bytes that are due.
-fn leaves(name: &str, step: usize, h: Header, iu: &[u8], before: &[u8], due: (Answer, &[u8])) -> Result<u64, String> {
+pub(super) fn leaves(name: &str, step: usize, h: Header, iu: &[u8], before: &[u8], due: (Answer, &[u8])) -> Result<u64, String> {
     let mut space = [0xa5; SPACE];
     space[..before.len()].copy_from_slice(before);
     let mut after = space;

@@ -7,7 +7,7 @@ use crate::records::*;
 type Due = (u8, u8);
 
 pub struct Script {
-    name: &'static str,
+    pub(super) name: &'static str,
     pub pair: Pair,
     calls: u64,
 }
@@ -31,14 +31,14 @@ impl Script {
         }
         Ok(a)
     }
-    /// A frame is due: its offset (of an XFER_RDY, the requested one), flags in byte 10, TPTT.
+    /// A frame is due: its offset (of an XFER_RDY, the requested one), all of byte 10, TPTT.
     pub fn frame(&mut self, offset: u32, flags: u8, tptt: u16) -> Result<Vec<u8>, String> {
         let a = self.call(Call::Next(self.pair.data[0].len(), 1048), (FRAME, 0))?;
         let f = self.pair.out[0][..a.len].to_vec();
         let h = frame::header_of(&f);
         let at = if f[0] == frame::XFER_RDY { u32::from_be_bytes([f[24], f[25], f[26], f[27]]) } else { h.offset };
         if (at, f[10], h.tptt) != (offset, flags, tptt) {
-            return Err(format!("{}: frame {f:02x?} at both sides, due offset {offset}, flags {flags}, tag {tptt}", self.name));
+            return Err(format!("{}: frame {f:02x?} at both sides, due offset {offset}, byte 10 {flags}, tag {tptt}", self.name));
         }
         Ok(f)
     }
@@ -57,7 +57,7 @@ impl Script {
     }
 }
 
-/// A frame for the port with `transfer`'s addresses.
+/// A frame for the port with `transfer`'s addresses; `flags` are bits 4 to 0 of byte 10.
 pub fn bytes(kind: u8, offset: u32, flags: u8, tptt: u16, iu: &[u8]) -> Vec<u8> {
     let h = Header {
         kind,
@@ -66,6 +66,7 @@ pub fn bytes(kind: u8, offset: u32, flags: u8, tptt: u16, iu: &[u8]) -> Vec<u8> 
         retry: flags & 4 != 0,
         retransmit: flags & 2 != 0,
         cdp: flags & 1 != 0,
+        tlr: flags >> 3,
         tag: 0x12,
         tptt,
         offset,
@@ -229,6 +230,7 @@ pub fn all() -> Result<u64, String> {
         + greatest()?
         + space()?
         + super::steps::vectors()?
+        + super::tlr::vectors()?
         + super::sources::all()?
         + super::states::all()?
         + super::bursts::all()?

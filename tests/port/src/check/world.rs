@@ -29,7 +29,7 @@ pub enum Event {
     ResponseNak,
     ResponseTimeout,
     ResponseCut,
-    /// Frame of before, again, with a byte changed or not.
+    /// Frame of before, again, with any TLR CONTROL, with a byte changed or not.
     Old(u32),
     /// A made-up XFER_RDY.
     Forged(u32),
@@ -219,6 +219,7 @@ impl World {
                     return Ok(false);
                 }
                 let mut f = self.old[k as usize % self.old.len()].clone();
+                f[10] ^= (k >> 27 & 3) as u8 * 8;
                 if k & 0x100 != 0 {
                     let at = (k >> 9) as usize % f.len();
                     f[at] ^= 1 << (k >> 24 & 7);
@@ -277,6 +278,7 @@ fn forged(w: &Writer, k: u32) -> Vec<u8> {
         source: t.remote,
         retry: k >> 16 & 3 != 0,
         retransmit: k >> 18 & 1 != 0,
+        tlr: (k >> 6 & 3) as u8,
         tag: t.tag,
         tptt: (k >> 20 & 3) as u16,
         ..Header::default()
