@@ -72,7 +72,7 @@ enum ssp_what {
     SSP_RECEIVED = 11,            /* DATA, stored, and the burst is filled with it */
     SSP_NEXT_BURST = 12,          /* an XFER_RDY for the next burst was taken; there was none before, or its delivery was reported */
     SSP_NEXT_BURST_DELIVERS = 13, /* [frames] the same; with it the burst before counts as delivered */
-    SSP_REPEATED = 14,            /* an XFER_RDY that repeats the burst taken last was taken */
+    SSP_REPEATED = 14,            /* an XFER_RDY that repeats the burst taken last, its offset and length, was taken */
     SSP_RESPONSE = 15,            /* [start, len, frames] the command has ended; the RESPONSE's IU is len bytes of the frame from start */
     SSP_READY = 16,               /* a set-up was taken: the record is at its start */
     SSP_PARSED = 17               /* [start, len] a frame or an XFER_RDY's IU was read */
@@ -288,7 +288,10 @@ ssp_answer ssp_write_send_nexus_loss(ssp_writer *writer);
 
 /* A frame that came whole, any bytes: XFER_RDY or RESPONSE.
  * 1, 2, 5, 6, 7, 8; XFER_RDY: 23, 24, 27, 26, 25, else SSP_NEXT_BURST, SSP_NEXT_BURST_DELIVERS or SSP_REPEATED; RESPONSE: 32, else
- * SSP_RESPONSE with the frames of the burst in service (the record has ended). */
+ * SSP_RESPONSE with the frames of the burst in service (the record has ended).
+ * 25: the length is 0 or, with the offset, passes the byte count; or RETRANSMIT is one, the offset is the base of the burst taken last,
+ * started or not, and the length is not that burst's. Before any burst is taken, and where the offset is the end of the one taken last, a
+ * resent XFER_RDY is for the next burst, of any length that fits. One that fails does not replace a burst that waits to start. */
 ssp_answer ssp_write_send_frame(ssp_writer *writer, const uint8_t *bytes, size_t bytes_len);
 
 /* ---- A write at the target. ----------------------------------------------------------------------------------------------------------

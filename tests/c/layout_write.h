@@ -49,7 +49,17 @@ static void writer_fields(void) {
                                same_burst(w.taken, burst(24, 30, 0x0506, 2)));
     WRITER(pending, false, is(arrive_xfer_rdy(&w, 24, 6, false, false), SSP_NEXT_BURST_DELIVERS, 0, 5, 0, 0) &&
                                same_burst(w.taken, burst(24, 30, 0x0506, 0)));
-    WRITER(pending, false, says(arrive_xfer_rdy(&w, 8, 6, true, true), SSP_REPEATED) && w.taken.base == 8 && w.taken.end == 14);
+    WRITER(pending, false, says(arrive_xfer_rdy(&w, 8, 16, true, true), SSP_REPEATED) && w.pending &&
+                               same_burst(w.taken, burst(8, 24, 0x0506, 2)));
+    /* a repeat of another length than the burst's 16 */
+    WRITER(pending, false, failed(arrive_xfer_rdy(&w, 8, 15, true, true), 25, 5) && w.sender.ended && !w.pending);
+    WRITER(pending, false, failed(arrive_xfer_rdy(&w, 8, 17, true, true), 25, 5) && w.sender.ended && !w.pending);
+    WRITER(pending, false, failed(arrive_xfer_rdy(&w, 8, 0, true, true), 25, 5));
+    WRITER(sender.burst.end, 25, failed(arrive_xfer_rdy(&w, 8, 16, true, true), 25, 5));
+    /* at its end: another burst */
+    WRITER(pending, false, is(arrive_xfer_rdy(&w, 24, 4, true, true), SSP_NEXT_BURST_DELIVERS, 0, 5, 0, 0));
+    WRITER(pending, false, failed(arrive_xfer_rdy(&w, 9, 38, true, true), 26, 5));
+    WRITER(reached, 23, failed(arrive_xfer_rdy(&w, 24, 23, true, true), 27, 5));
     WRITER(pending, false, failed(arrive_xfer_rdy(&w, 8, 6, true, false), 26, 5));
     WRITER(pending, false, failed(arrive_xfer_rdy(&w, 24, 23, true, false), 25, 5));
     TAKEN(sender.unanswered, 2, says(ask_write(&w), SSP_WAIT));
@@ -71,7 +81,15 @@ static void writer_fields(void) {
     }
     TAKEN(taken.base, 28, framed(ask_write(&w), 32) && be(20, 4) == 28 && w.sender.burst.base == 28 && w.reached == 36);
     TAKEN(taken.base, 45, refused(ask_write(&w), 1)); /* above its end */
-    TAKEN(taken.base, 28, says(arrive_xfer_rdy(&w, 28, 2, true, true), SSP_REPEATED));
+    TAKEN(taken.base, 28, says(arrive_xfer_rdy(&w, 28, 16, true, true), SSP_REPEATED) && w.sender.burst.end == 44);
+    TAKEN(taken.base, 28, failed(arrive_xfer_rdy(&w, 28, 18, true, true), 25, 5));
+    TAKEN(taken.end, 42, says(arrive_xfer_rdy(&w, 26, 16, true, true), SSP_REPEATED));
+    TAKEN(taken.end, 42, failed(arrive_xfer_rdy(&w, 26, 18, true, true), 25, 5));
+    /* the burst in service does not count, and what fails replaces nothing */
+    TAKEN(sender.unanswered, 2, says(arrive_xfer_rdy(&w, 26, 18, true, true), SSP_REPEATED) &&
+                                    same_burst(w.taken, burst(26, 44, 0x0506, 2)));
+    TAKEN(sender.unanswered, 2, failed(arrive_xfer_rdy(&w, 26, 16, true, true), 25, 5) && w.pending &&
+                                    same_burst(w.taken, burst(26, 44, 0x0304, 1)));
     TAKEN(taken.end, 30, framed(ask_write(&w), 28) && w.sender.burst.end == 30);
     TAKEN(taken.end, 25, refused(ask_write(&w), 1)); /* below its base */
     TAKEN(taken.end, 47, refused(ask_write(&w), 1)); /* above the byte count */
@@ -80,6 +98,16 @@ static void writer_fields(void) {
     TAKEN(taken.limit, 2, framed(ask_write(&w), 32) && says(ssp_write_send_timeout(&w), SSP_RETRY));
     TAKEN(taken.limit, 3, refused(ask_write(&w), 1)); /* above the transfer's */
     TAKEN(pending, false, framed(ask_write(&w), 32) && be(20, 4) == 16); /* the old burst is served */
+    {
+        /* before any burst there is none to repeat */
+        ssp_writer w;
+        TRY("a write", says(ssp_write_send_set_up(&w, transfer(true, HERE, THERE)), SSP_READY));
+        TRY("the first XFER_RDY, resent",
+            says(arrive_xfer_rdy(&w, 0, 7, true, true), SSP_NEXT_BURST) && same_burst(w.sender.burst, burst(0, 7, 0x0506, 2)));
+        TRY("it is resent once more", says(arrive_xfer_rdy(&w, 0, 7, true, true), SSP_REPEATED));
+        TRY("and then for a byte more", failed(arrive_xfer_rdy(&w, 0, 8, true, true), 25, 0) && w.sender.ended);
+        TRY("so no frame goes out", refused(ask_write(&w), 2));
+    }
     {
         ssp_writer w = writer();
         ssp_header h = header(SSP_TYPE_RESPONSE, HERE, THERE);

@@ -11,8 +11,8 @@ use Rattle.status.specs.Pick.{pick}
 use Rattle.status.specs.Outcome.{Outcome}
 use Rattle.status.proofs.Opened.{differ}
 use Rattle.transfer.specs.declared.Transfer.{Transfer}
-use Rattle.frame.specs.Format.{encode}
-use Rattle.frame.specs.Read.{decode, headerIn, iuLength, iuOf, parsed}
+use Rattle.frame.specs.Format.{isType, encode}
+use Rattle.frame.specs.Read.{decode, headerIn, wellFormed, iuLength, iuOf, parsed}
 use Rattle.frame.specs.Write.{writable}
 use Rattle.frame.specs.RoundTrip.{InRange}
 use Rattle.frame.specs.declared.types.Header.{Header}
@@ -34,15 +34,22 @@ pub record Passed (role : Role) (f : List ℕ) (a : Arrived) : Type 0 where
   pub inside : 24 + iuLength f ≤ length f
 
 module _ (t : Transfer) where
-  screen-passed : (k : Kind) (p : Parsed) (a : Arrived) → screenOf t k p ≡ Outcome.value a → (record { kind = k; header = p .header; start = p .start; len = p .len } ≡ a) × (isTaken k ≡ true)
+  -- 6, 7 and 8 are not met
+  record Screened (k : Kind) (p : Parsed) (a : Arrived) : Type 0 where
+    is : record { kind = k; header = p .header; start = p .start; len = p .len } ≡ a
+    taken : isTaken k ≡ true
+    address : (not (eqb (p .header .dest) (t .local)) || not (eqb (p .header .source) (t .remote))) ≡ false
+    tag : not (eqb (p .header .tag) (t .tag)) ≡ false
+
+  screen-passed : (k : Kind) (p : Parsed) (a : Arrived) → screenOf t k p ≡ Outcome.value a → Screened k p a
   unfolding screenOf pick
-  screen-passed k p a e = go (isTaken k) (not (eqb (p .header .dest) (t .local)) || not (eqb (p .header .source) (t .remote))) (not (eqb (p .header .tag) (t .tag))) e
+  screen-passed k p a e = go (isTaken k) (not (eqb (p .header .dest) (t .local)) || not (eqb (p .header .source) (t .remote))) (not (eqb (p .header .tag) (t .tag))) refl refl refl e
     where
-      go : (x y z : Bool) → pick (not x) (Outcome.number 6) (pick y (Outcome.number 7) (pick z (Outcome.number 8) (Outcome.value (record { kind = k; header = p .header; start = p .start; len = p .len })))) ≡ Outcome.value a → (record { kind = k; header = p .header; start = p .start; len = p .len } ≡ a) × (x ≡ true)
-      go true false false e = (cc, refl)
-      go true false true e = differ (cc)
-      go true true z e = differ (cc)
-      go false y z e = differ (cc)
+      go : (x y z : Bool) → isTaken k ≡ x → (not (eqb (p .header .dest) (t .local)) || not (eqb (p .header .source) (t .remote))) ≡ y → not (eqb (p .header .tag) (t .tag)) ≡ z → pick (not x) (Outcome.number 6) (pick y (Outcome.number 7) (pick z (Outcome.number 8) (Outcome.value (record { kind = k; header = p .header; start = p .start; len = p .len })))) ≡ Outcome.value a → Screened k p a
+      go true false false b c d e = record { is = cc; taken = b; address = c; tag = d }
+      go true false true b c d e = differ (cc)
+      go true true z b c d e = differ (cc)
+      go false y z b c d e = differ (cc)
 
   pub passed : (role : Role) (f : List ℕ) (a : Arrived) → acceptOf role t f ≡ Outcome.value a → Passed role f a
   unfolding acceptOf
@@ -54,7 +61,19 @@ module _ (t : Transfer) where
           let q = accepted f p d in
           let b = formed f (q .form) in
           let s = screen-passed (kindOf role (headerIn f .kind)) (parsed f) a (ap (λ (v : Parsed). screenOf t (kindOf role (v .header .kind)) v) (q .is) ∙ e) in
-          record { is = s .0; taken = s .1; inside = omega (arith, b .least, b .fill) }
+          record { is = s .is; taken = s .taken; inside = omega (arith, b .least, b .fill) }
+
+  -- a frame passes where one of the same form, type, addresses and tag does
+  pub same-passes : (role : Role) (f g : List ℕ) (a : Arrived) → wellFormed g ≡ wellFormed f → headerIn g .kind ≡ headerIn f .kind → headerIn g .dest ≡ headerIn f .dest → headerIn g .source ≡ headerIn f .source → headerIn g .tag ≡ headerIn f .tag → acceptOf role t f ≡ Outcome.value a → acceptOf role t g ≡ Outcome.value (arrivedIn role g)
+  unfolding acceptOf decode screenOf headerIn pick
+  same-passes role f g a form kind dest source tag e = go (decode f) refl e
+    where
+      go : (x : Outcome Parsed) → decode f ≡ x → screened x role t ≡ Outcome.value a → acceptOf role t g ≡ Outcome.value (arrivedIn role g)
+      go (Outcome.number n) d e = differ (cc)
+      go (Outcome.value p) d e =
+          let q = accepted f p d in
+          let s = screen-passed (kindOf role (headerIn f .kind)) (parsed f) a (ap (λ (v : Parsed). screenOf t (kindOf role (v .header .kind)) v) (q .is) ∙ e) in
+          rw (form ∙ q .form, ap isType kind ∙ q .kind, ap (λ (k : ℕ). isTaken (kindOf role k)) kind ∙ s .taken, (λ i. not (eqb (dest i) (t .local)) || not (eqb (source i) (t .remote))) ∙ s .address, ap (λ (n : ℕ). not (eqb n (t .tag))) tag ∙ s .tag)
 
   -- a frame that was written for this port
   module _ (role : Role) (h : Header) (iu : List ℕ) (k : Kind) (e : kindOf role (h .kind) ≡ k) (taken : isTaken k ≡ true) (d : h .dest ≡ t .local) (s : h .source ≡ t .remote) (g : h .tag ≡ t .tag) (r : InRange h) (w : writable h (length iu) ≡ true) where

@@ -65,7 +65,7 @@ module _ (h : Header) (iu : List ℕ) where
   unfolding encode headerBytes
   kind-back = refl
 
-  iu-back : iuOf (encode h iu) ≡ iu
+  pub iu-back : iuOf (encode h iu) ≡ iu
   unfolding encode dataBytes headerBytes
   iu-back = take-at iu (replicate (fillOf (length iu)) 0) _ (sym iu-length-back)
 

@@ -9,4 +9,5 @@ pub mod WriteTold
 pub mod WriteSame
 pub mod WriteEnded
 pub mod WriteKept
+pub mod WriteRepeat
 pub mod TlrControl

@@ -85,7 +85,7 @@ module _ (w : Writer) (f : List ℕ) where
       go true = starts-now (startsOf w saying Said.told Word.taken) (rw p) refl (λ h e. tt)
       go false = goes-on (left saying Said.told Word.taken) refl refl (λ h e. (e, tt))
 
-  waits-pending : heldUp w ≡ true → w .pending ≡ true
+  pub waits-pending : heldUp w ≡ true → w .pending ≡ true
   waits-pending = go (w .pending) refl
     where
       go : (p : Bool) → w .pending ≡ p → (p && not (eqb (w .sender .unanswered) 0)) ≡ true → w .pending ≡ true

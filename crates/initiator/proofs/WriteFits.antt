@@ -5,14 +5,16 @@ use mathlib.Core.Logic.{_⊎_, inl, inr}
 use mathlib.Core.Path.{_≡_, refl}
 use native.Mathlib.Omega.{arith}
 use lib.Dec.{eqb, ltb}
-use borrow.Author.Tests.{eqb-false, ltb-false}
+use borrow.Author.Tests.{eqb-false, ltb-false, eq-eqb, ne-eqb}
 use Rattle.status.specs.Pick.{pick}
 use Rattle.status.specs.declared.words.Failure.the-variants.{XferRdyIncorrectWriteDataLength, XferRdyNotExpected, XferRdyRequestedOffsetError}
+use Rattle.status.proofs.Choose.{in-true, in-false}
 use Rattle.status.proofs.Opened.{differ}
 use Rattle.transfer.specs.Limits.{limitsHold}
 use Rattle.transfer.proofs.Bounds.{bounds}
 use Rattle.frame.specs.declared.types.XferRdy.{XferRdy}
-use Rattle.initiator.specs.WriteTake.{previous, allHanded, fitsOf, verdictOf}
+use Rattle.sender.specs.declared.types.Burst.{Burst}
+use Rattle.initiator.specs.WriteTake.{previous, allHanded, fitsOf, repeatOf, verdictOf}
 use Rattle.initiator.specs.declared.types.Verdict.{Verdict}
 use Rattle.initiator.specs.declared.types.Verdict.the-variants.{Next, Repeat, Fail}
 use Rattle.initiator.specs.declared.types.Writer.{Writer}
@@ -35,12 +37,30 @@ fits w x v e = go (eqb (x .len) 0) (ltb (w .sender .transfer .count) (x .offset 
     go true u p q (inl e) = differ (cc)
     go true u p q (inr e) = differ (cc)
 
+-- by what the code compares: p is the previous burst
+pub same-length : (w : Writer) (x : XferRdy) (r : Verdict) (p : Burst) → p ≡ previous w → p .base + x .len ≡ p .end → r ≡ fitsOf w x Repeat → r ≡ repeatOf w x
+unfolding repeatOf
+same-length w x r p e l q = in-true _ _ _ _ (eq-eqb _ _ (rw e at l)) q
+
+pub other-length : (w : Writer) (x : XferRdy) (p : Burst) → p ≡ previous w → (p .base + x .len ≡ p .end → ⊥) → Fail XferRdyIncorrectWriteDataLength ≡ repeatOf w x
+unfolding repeatOf
+other-length w x p e l = in-false _ _ _ _ (ne-eqb _ _ (rw e at l)) refl
+
+repeat-fits : (w : Writer) (x : XferRdy) → Taken (repeatOf w x) → Fits w x
+unfolding repeatOf pick
+repeat-fits w x e = go (eqb (previous w .base + x .len) (previous w .end)) e
+  where
+    go : (t : Bool) → Taken (pick t (fitsOf w x Repeat) (Fail XferRdyIncorrectWriteDataLength)) → Fits w x
+    go true e = fits w x Repeat e
+    go false (inl e) = differ (cc)
+    go false (inr e) = differ (cc)
+
 pub taken-fits : (w : Writer) (x : XferRdy) (retransmit : Bool) → Taken (verdictOf w x retransmit) → Fits w x
 unfolding verdictOf pick
 taken-fits w x retransmit e = go (retransmit && eqb (x .offset) (previous w .base) && ltb (previous w .base) (previous w .end)) (eqb (x .offset) (previous w .end)) (allHanded w) e
   where
-    go : (t u v : Bool) → Taken (pick t (fitsOf w x Repeat) (pick u (pick v (fitsOf w x Next) (Fail XferRdyNotExpected)) (Fail XferRdyRequestedOffsetError))) → Fits w x
-    go true u v e = fits w x Repeat e
+    go : (t u v : Bool) → Taken (pick t (repeatOf w x) (pick u (pick v (fitsOf w x Next) (Fail XferRdyNotExpected)) (Fail XferRdyRequestedOffsetError))) → Fits w x
+    go true u v e = repeat-fits w x e
     go false true true e = fits w x Next e
     go false true false (inl e) = differ (cc)
     go false true false (inr e) = differ (cc)

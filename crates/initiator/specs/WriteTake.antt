@@ -44,11 +44,15 @@ allHanded w = pick (w .pending) (eqb (w .taken .base) (w .taken .end)) (eqb (w .
 unfoldable pub fitsOf : Writer → XferRdy → Verdict → Verdict
 fitsOf w x v = pick (eqb (x .len) 0 || ltb (w .sender .transfer .count) (x .offset + x .len)) (Fail XferRdyIncorrectWriteDataLength) v
 
+-- 25 also where a repeat has another length: "its length must be that of the burst it repeats" (request K3)
+unfoldable pub repeatOf : Writer → XferRdy → Verdict
+repeatOf w x = pick (eqb (previous w .base + x .len) (previous w .end)) (fitsOf w x Repeat) (Fail XferRdyIncorrectWriteDataLength)
+
 -- "with RETRANSMIT one it also takes the previous base, at any time" (before any burst there is none to repeat);
 -- "takes an offset equal to the previous burst's end .. if every frame of that burst was handed out at least once, else 27"; "other offsets are 26"; then 25
 unfoldable pub verdictOf : Writer → XferRdy → Bool → Verdict
 verdictOf w x retransmit =
-    pick (retransmit && eqb (x .offset) (previous w .base) && ltb (previous w .base) (previous w .end)) (fitsOf w x Repeat)
+    pick (retransmit && eqb (x .offset) (previous w .base) && ltb (previous w .base) (previous w .end)) (repeatOf w x)
     (pick (eqb (x .offset) (previous w .end)) (pick (allHanded w) (fitsOf w x Next) (Fail XferRdyNotExpected))
     (Fail XferRdyRequestedOffsetError))
 

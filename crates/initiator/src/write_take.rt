@@ -3,13 +3,14 @@ ghost use mathlib.Core.Path.{_≡_};
 ghost use mathlib.Core.Bool.{true};
 ghost use mathlib.Core.List.{[]};
 ghost use Prim.Native.Nat.{_+_, _^_, _≤_, _<_};
+ghost use lib.Dec.{ltb};
 ghost use lib.ListN.{length, take};
 ghost use Rattle.status.specs.Answer.{says};
 ghost use Rattle.status.specs.Number.{failureNumber};
 ghost use Rattle.transfer.specs.Limits.{limitsHold};
 ghost use Rattle.initiator.specs.WriteRecord.{stepped};
 ghost use Rattle.initiator.specs.WriteCount.{Counts};
-ghost use Rattle.initiator.specs.WriteTake.{endedOf, failedOf, previous, allHanded, fitsOf, verdictOf, limitOf, askedOf, nextTaken, burstTaken, xferRdyTaken, responseOf, takenOf, writeArrivalOf};
+ghost use Rattle.initiator.specs.WriteTake.{endedOf, failedOf, previous, allHanded, fitsOf, repeatOf, verdictOf, limitOf, askedOf, nextTaken, burstTaken, xferRdyTaken, responseOf, takenOf, writeArrivalOf};
 use crate::types::Verdict;
 use crate::types::WriteStepped;
 use crate::types::Writer;
@@ -86,14 +87,34 @@ fn fits(w: Writer, x: XferRdy, v: Verdict) -> Verdict
     }
 }
 
+// 25 where its length is not that of the burst it repeats, else as it fits.
+fn repeated(w: Writer, x: XferRdy) -> Verdict
+    ensures { λ r. ⌜ r ≡ repeatOf w x ⌝ }
+{
+    let p = previous(w);
+    let past = (p.base as u64) + (x.len as u64);
+    if past == (p.end as u64) {
+        return fits(w, x, Verdict::Repeat);
+    }
+    Verdict::Fail(Failure::XferRdyIncorrectWriteDataLength)
+}
+
+// There is a burst to repeat: before any is taken the record has an empty one.
+fn repeatable(p: Burst) -> bool
+    ensures { λ r. ⌜ r ≡ ltb (p .base) (p .end) ⌝ }
+{
+    p.base < p.end
+}
+
 // 27, 26, then 25.
 fn judge(w: Writer, x: XferRdy, retransmit: bool) -> Verdict
     ensures { λ r. ⌜ r ≡ verdictOf w x retransmit ⌝ }
 {
     let p = previous(w);
     let all = all_handed(w);
-    if retransmit & (x.offset == p.base) & (p.base < p.end) {
-        return fits(w, x, Verdict::Repeat);
+    let some = repeatable(p);
+    if retransmit & (x.offset == p.base) & some {
+        return repeated(w, x);
     }
     if x.offset == p.end {
         if all {

@@ -20,7 +20,10 @@ pub mod WriteSimulates
 pub mod Exchange
 pub mod Theorem
 pub mod TakenAlike
+pub mod Resent
+pub mod TakenAgain
 pub mod Worked
 pub mod WorkedFaults
 pub mod WorkedWrite
 pub mod WorkedCrossing
+pub mod WorkedRepeat

@@ -7,7 +7,7 @@ use Rattle.frame.specs.XferRdy.{xferRdyBytes}
 use Rattle.frame.specs.XferRdy as frame
 use Rattle.initiator.specs.WriteRecord as initiator
 use Rattle.initiator.specs.WriteSend.{lentOf, begunOf, nextOf, countedOf, answeredOf}
-use Rattle.initiator.specs.WriteTake.{fitsOf, verdictOf, nextTaken, burstTaken, xferRdyTaken, responseOf, writeArrivalOf}
+use Rattle.initiator.specs.WriteTake.{fitsOf, repeatOf, verdictOf, nextTaken, burstTaken, xferRdyTaken, responseOf, writeArrivalOf}
 use Rattle.target.specs.Tag.{member, search, lowest, used}
 use Rattle.target.specs.Record as target
 use Rattle.target.specs.Transmit.{dueOf, burstOf, issuedOf, xferRdyHeader, xferRdyIu, frameOf}
@@ -24,7 +24,7 @@ use Rattle.link.proofs.Worked.{given, _then_, worked, computed}
 
 -- all that a write computes with
 unfoldable pub computed-write : Unit {0}
-unfolding computed frame.xferRdyOf xferRdyBytes initiator.tests initiator.holdsOf lentOf begunOf nextOf countedOf answeredOf fitsOf verdictOf nextTaken burstTaken xferRdyTaken responseOf writeArrivalOf member search lowest used target.tests target.holdsOf dueOf burstOf issuedOf xferRdyHeader xferRdyIu frameOf issue.nextOf retryOf answersOf takenOf taking.lentOf taking.writeArrivalOf firstStart firstEvents secondStart secondTransfer secondLate resentStart resentTransfer
+unfolding computed frame.xferRdyOf xferRdyBytes initiator.tests initiator.holdsOf lentOf begunOf nextOf countedOf answeredOf fitsOf repeatOf verdictOf nextTaken burstTaken xferRdyTaken responseOf writeArrivalOf member search lowest used target.tests target.holdsOf dueOf burstOf issuedOf xferRdyHeader xferRdyIu frameOf issue.nextOf retryOf answersOf takenOf taking.lentOf taking.writeArrivalOf firstStart firstEvents secondStart secondTransfer secondLate resentStart resentTransfer
 computed-write = tt
 
 alike : Alike host device

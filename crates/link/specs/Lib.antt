@@ -6,7 +6,9 @@ pub mod Reading
 pub mod Writing
 pub mod Claim
 pub mod TakenAlike
+pub mod Resent
 pub mod Worked
 pub mod WorkedFaults
 pub mod WorkedWrite
 pub mod WorkedCrossing
+pub mod WorkedRepeat

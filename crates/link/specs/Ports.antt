@@ -1,6 +1,7 @@
 -- A pair of ports as the link meets it: two records, moved only by the definitions that the ports' contracts cite.
 use Prim.Native.Nat.{ℕ}
-use mathlib.Core.List.{List}
+use mathlib.Core.List.{List, [], _∷_}
+use lib.ListN.{take}
 use Rattle.status.specs.Answer.{Said, Left}
 use Rattle.sender.specs.Answer.{ackOf, nakOf, timeoutOf, cutOf, lossOf}
 use Rattle.sender.specs.declared.types.Sender.{Sender}
@@ -13,6 +14,18 @@ pub record Called (X : Type 0) : Type 0 where
 
 abbrev pub lending : {X : Type 0} → Left X → List ℕ → Called X
 lending x b = record { left = x .left; says = x .says; lent = b }
+
+-- the frame that a call handed out, if any: the bytes at the front of the output buffer
+abbrev pub frameIn : Said → List ℕ → List (List ℕ)
+frameIn (Said.frame n) out = take n out ∷ []
+frameIn (Said.refused n) out = []
+frameIn (Said.failed n k) out = []
+frameIn (Said.delivered n) out = []
+frameIn Said.stored out = []
+frameIn Said.received out = []
+frameIn (Said.burst t) out = []
+frameIn (Said.response start len n) out = []
+frameIn (Said.told w) out = []
 
 -- what a port is told without a buffer
 pub data Signal : Type 0 where

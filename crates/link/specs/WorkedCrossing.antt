@@ -3,7 +3,7 @@ use Prim.Native.Nat.{ℕ, _+_}
 use mathlib.Core.List.{List, [], _∷_, _++_}
 use mathlib.Core.Bool.{true}
 use mathlib.Core.Path.{_≡_}
-use lib.ListN.{take, replicate}
+use lib.ListN.{replicate}
 use Rattle.status.specs.Answer.{Word, Taking, Said, _saying_}
 use Rattle.status.specs.Pick.{_with_}
 use Rattle.initiator.specs.Fields.{pending≔, taken≔}
@@ -12,7 +12,7 @@ use Rattle.initiator.specs.WriteTake.{writeArrivalOf}
 use Rattle.initiator.specs.declared.types.Writer.{Writer}
 use Rattle.target.specs.Record as target
 use Rattle.target.specs.declared.types.Target.{Target}
-use Rattle.link.specs.Ports.{Called, lending, Signal}
+use Rattle.link.specs.Ports.{Called, lending, frameIn, Signal}
 use Rattle.link.specs.Writing.{TargetCall, writePorts}
 use Rattle.link.specs.Worked.{space, response, ten}
 use Rattle.link.specs.WorkedWrite.{host, device, ready, xferRdy, dataFrame, writer, sentFirst}
@@ -25,17 +25,6 @@ calls x (c ∷ cs) = calls (c x .left) cs
 abbrev pub said : {X : Type 0} → X → List (X → Called X) → List Said
 said x [] = []
 said x (c ∷ cs) = c x .says ∷ said (c x .left) cs
-
-abbrev pub frameIn : Said → List ℕ → List (List ℕ)
-frameIn (Said.frame n) out = take n out ∷ []
-frameIn (Said.refused n) out = []
-frameIn (Said.failed n k) out = []
-frameIn (Said.delivered n) out = []
-frameIn Said.stored out = []
-frameIn Said.received out = []
-frameIn (Said.burst t) out = []
-frameIn (Said.response start len n) out = []
-frameIn (Said.told w) out = []
 
 abbrev pub framesOf : {X : Type 0} → X → List (X → Called X) → List (List ℕ)
 framesOf x [] = []

@@ -39,13 +39,17 @@ device = writing 0xabcdef 0x123456
 abbrev pub ready : List ℕ
 ready = replicate 36 0xff
 
--- the target's XFER_RDY: byte 10, the TPTT and the requested offset, for five bytes
-abbrev pub xferRdy : ℕ → ℕ → ℕ → List ℕ
-xferRdy flags tptt offset =
+-- the target's XFER_RDY: byte 10, the TPTT, the requested offset and the write data length
+abbrev pub xferRdyFor : ℕ → ℕ → ℕ → ℕ → List ℕ
+xferRdyFor flags tptt offset len =
     0x05 ∷ 0x12 ∷ 0x34 ∷ 0x56 ∷ 0x00 ∷ 0xab ∷ 0xcd ∷ 0xef ∷
     0x00 ∷ 0x00 ∷ flags ∷ 0x00 ∷ 0x00 ∷ 0x00 ∷ 0x00 ∷ 0x00 ∷
     0x00 ∷ 0x12 ∷ 0x00 ∷ tptt ∷ 0x00 ∷ 0x00 ∷ 0x00 ∷ 0x00 ∷
-    0x00 ∷ 0x00 ∷ 0x00 ∷ offset ∷ 0x00 ∷ 0x00 ∷ 0x00 ∷ 0x05 ∷ 0x00 ∷ 0x00 ∷ 0x00 ∷ 0x00 ∷ []
+    0x00 ∷ 0x00 ∷ 0x00 ∷ offset ∷ 0x00 ∷ 0x00 ∷ 0x00 ∷ len ∷ 0x00 ∷ 0x00 ∷ 0x00 ∷ 0x00 ∷ []
+
+-- for five bytes, a whole burst
+abbrev pub xferRdy : ℕ → ℕ → ℕ → List ℕ
+xferRdy flags tptt offset = xferRdyFor flags tptt offset 5
 
 -- the initiator's DATA frame: the TPTT, the data offset, the number of fill bytes and the four bytes at the end
 abbrev pub dataFrame : ℕ → ℕ → ℕ → List ℕ → List ℕ

@@ -5,3 +5,4 @@ pub mod Views
 pub mod ReadSteps
 pub mod Ended
 pub mod Kept
+pub mod Again

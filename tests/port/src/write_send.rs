@@ -121,7 +121,9 @@ fn xfer_rdy(w: &mut Writer, header: &Header, iu: &[u8]) -> Answer {
         return sender::fail(&mut w.sender, 26);
     };
     let end = u64::from(x.offset) + u64::from(x.len);
-    if x.len == 0 || end > u64::from(s.transfer.count) {
+    // K3: a repeat asks for the burst that it repeats, no more and no less.
+    let another = answer.what == REPEATED && end != u64::from(previous.end);
+    if x.len == 0 || end > u64::from(s.transfer.count) || another {
         return sender::fail(&mut w.sender, 25);
     }
     let limit = if header.retry { s.transfer.limit } else { 0 };

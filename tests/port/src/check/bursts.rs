@@ -273,10 +273,10 @@ fn xfer_rdy_taken() -> Result<u64, String> {
         n += s.holds(true)?;
     }
     // 003, XFER_RDY with RETRANSMIT zero while one is in service ends the command; 01: 27 at its end, with RETRANSMIT too; 26 at another
-    // offset, also at the base of the burst before; these before 25.
-    for (offset, len, flags, number) in
-        [(8, 4, 6, 27), (8, 0, 4, 27), (4, 4, 4, 26), (4, 0, 4, 26), (0, 4, 6, 26), (6, 2, 6, 26), (4, 9, 6, 25)]
-    {
+    // offset, also at the base of the burst before; these before 25, which K3 has for a repeat of another length.
+    let at_other = [(8, 4, 6, 27), (8, 0, 4, 27), (4, 4, 4, 26), (4, 0, 4, 26), (4, 3, 4, 26), (0, 4, 6, 26), (0, 3, 6, 26), (6, 2, 6, 26)];
+    let at_base = [0, 1, 3, 5, 8, 9].map(|len| (4, len, 6, 25));
+    for (offset, len, flags, number) in at_other.into_iter().chain(at_base) {
         let mut s = asked("003 in service", 12, 2, 1, 4)?;
         sends(&mut s, 0, &[0])?;
         s.arrives(ready(4, 4, 4, 1), (NEXT_BURST_DELIVERS, 0))?;

@@ -1,9 +1,13 @@
 //! What compares the library with the port.
 pub mod bursts;
+mod forged;
 pub mod headers;
 pub mod ladders;
 pub mod made_up;
 pub mod pair;
+pub mod resent;
+mod resent_runs;
+mod resent_walk;
 pub mod rng;
 pub mod single;
 pub mod sources;

@@ -1,4 +1,5 @@
 //! Single calls of every entry point, with made-up records and any bytes.
+use super::forged::near;
 use super::made_up;
 use super::pair::{Call, Pair, Rec};
 use super::rng::Rng;
@@ -182,6 +183,21 @@ fn frames(g: &mut Rng) -> Result<u64, String> {
     Ok(6)
 }
 
+/// K3: a resent XFER_RDY and a call after it, at a copy and from a generator of its own, so that the calls of the seed stay.
+fn resent(g: &mut Rng, w: &Writer, mut pair: Pair) -> Result<u64, String> {
+    let lent = (w.sender.transfer.count as usize).min(pair.data[0].len());
+    pair.call(&Call::Frame(near(g, w), lent))?;
+    let after = match g.below(6) {
+        0 => Call::Ack,
+        1 => Call::Nak,
+        2 => Call::Timeout,
+        3 => Call::Cut,
+        _ => Call::Next(lent, pair.out[0].len()),
+    };
+    pair.call(&after)?;
+    Ok(2)
+}
+
 /// Calls compared, or the difference; each seed makes one record and three calls. The record before a call
 /// is told with it, so that one call is the shortest list.
 pub fn all(first: u64, n: u64) -> Result<u64, String> {
@@ -197,6 +213,9 @@ pub fn all(first: u64, n: u64) -> Result<u64, String> {
         let rec = made_up::record(g, kind);
         let data = (0..ROOM).map(|i| (i * 3 + seed as usize) as u8).collect();
         let mut pair = Pair::new(rec, data, ROOM);
+        if let Rec::Writer(w) = &rec {
+            calls += resent(&mut Rng(!seed), w, pair.clone()).map_err(|e| format!("single call, seed {seed}, resent: {e}"))?;
+        }
         for _ in 0..3 {
             let call = call(g, &pair.rec[0], kind, ROOM);
             let a = pair.call(&call).map_err(|e| format!("single call, seed {seed}: {e}"))?;

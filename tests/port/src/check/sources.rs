@@ -143,6 +143,14 @@ fn xfer_rdy() -> Result<u64, String> {
     s.call(Call::Nak, (TAKEN, 0))?;
     s.frame(0, 0, 1)?;
     n += s.holds(true)?;
+    // 004, overview: it "corresponds to the immediately preceding" one; K3: so its length is that of the burst that it repeats.
+    for len in [4, 7, 9, 12] {
+        let mut s = writer("004 RETRANSMIT, another length", 12, 2, 1)?;
+        s.arrives(ready(0, 8, 4, 0), (NEXT_BURST, 0))?;
+        s.frame(0, 0, 0)?;
+        s.arrives(ready(0, len, 6, 1), (FAILED, 25))?;
+        n += s.holds(true)?;
+    }
     // 000, "XFER RDY problems" i): RETRANSMIT zero while one is in service ends the command; a wrong offset likewise.
     for (offset, flags, number) in [(8, 4, 27), (0, 4, 26), (4, 6, 26)] {
         let mut s = writer("000 XFER_RDY i", 12, 2, 1)?;

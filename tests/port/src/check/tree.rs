@@ -33,8 +33,11 @@ fn link_events(t: &Transfer) -> Vec<Event> {
     }
 }
 
+/// K3: repeats of another length, which end the initiator's record as a loss does, so that they lead to no further state.
+const REPEATS: [Event; 2] = [Event::Repeat(-1), Event::Repeat(1)];
+
 fn all_events(t: &Transfer) -> Vec<Event> {
-    [&link_events(t)[..], &RESPONSE_LINK, &LOSSES].concat()
+    [&link_events(t)[..], &RESPONSE_LINK, &LOSSES, if t.write { &REPEATS } else { &[] }].concat()
 }
 
 /// One XFER_RDY, taken and acknowledged.
@@ -225,8 +228,8 @@ impl Walk {
     }
 }
 
-/// Each list by itself. Link events from set-up, in a write one less and after its first XFER_RDY too; all events, three
-/// less; the RESPONSE's own events and loss, one less.
+/// Each list by itself. Link events from set-up, in a write one less and after its first XFER_RDY too, there also with repeats
+/// of another length, three less; all events, three less; the RESPONSE's own events and loss, one less.
 pub fn each(depth: usize) -> Result<u64, String> {
     let mut walk = Walk::default();
     let less = |n| depth.saturating_sub(n);
@@ -235,6 +238,7 @@ pub fn each(depth: usize) -> Result<u64, String> {
         let mut plan = vec![(vec![], link_events(&t), link), (vec![], all_events(&t), less(3))];
         if t.write {
             plan.push((READY.to_vec(), link_events(&t), link));
+            plan.push((READY.to_vec(), [&REPEATS[..], &link_events(&t)].concat(), less(3)));
         }
         if t.count == 4 && t.window == 1 {
             plan.push((vec![], [&RESPONSE_LINK[..], &LOSSES[2..]].concat(), less(1)));

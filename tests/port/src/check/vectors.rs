@@ -231,6 +231,7 @@ pub fn all() -> Result<u64, String> {
         + space()?
         + super::steps::vectors()?
         + super::tlr::vectors()?
+        + super::resent::vectors()?
         + super::sources::all()?
         + super::states::all()?
         + super::bursts::all()?

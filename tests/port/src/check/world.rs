@@ -1,7 +1,7 @@
 //! Both ends of one command over a link with faults, library and port side by side.
+use super::forged::{forged, repeat};
 use super::pair::{Call, Pair, Rec};
 use super::rng::Rng;
-use crate::frame;
 use crate::records::*;
 use std::collections::VecDeque;
 
@@ -33,6 +33,8 @@ pub enum Event {
     Old(u32),
     /// A made-up XFER_RDY.
     Forged(u32),
+    /// K3: a made-up repeat of the burst taken last, so many bytes longer.
+    Repeat(i32),
     /// Answers out of turn, short buffers, a nexus loss.
     Stray(u32),
     Loss(u32),
@@ -235,6 +237,13 @@ impl World {
                 let f = forged(&w, k);
                 one(&mut self.sender, Call::Frame(f, n), c)
             }
+            Event::Repeat(more) => {
+                let Rec::Writer(w) = self.sender.rec[0] else { return Ok(false) };
+                match repeat(&w, more) {
+                    None => Ok(false),
+                    Some(f) => one(&mut self.sender, Call::Frame(f, n), c),
+                }
+            }
             Event::Stray(k) => {
                 let d = if k & 0x30 == 0 { 0 } else { n };
                 let call = match k & 7 {
@@ -253,43 +262,6 @@ impl World {
             }
         }
     }
-}
-
-fn forged(w: &Writer, k: u32) -> Vec<u8> {
-    let t = &w.sender.transfer;
-    let last = if w.pending { w.taken } else { w.sender.burst };
-    let offset = match k & 7 {
-        0 | 1 => last.base,
-        2..=5 => last.end,
-        6 => last.end.wrapping_sub(1),
-        _ => k >> 28,
-    };
-    let left = t.count.saturating_sub(offset);
-    let len = match k >> 3 & 7 {
-        0 => 0,
-        1 => left + 1,
-        2 => u32::MAX,
-        3 => left,
-        _ => 1 + (k >> 8) % left.max(1),
-    };
-    let h = Header {
-        kind: frame::XFER_RDY,
-        dest: t.local,
-        source: t.remote,
-        retry: k >> 16 & 3 != 0,
-        retransmit: k >> 18 & 1 != 0,
-        tlr: (k >> 6 & 3) as u8,
-        tag: t.tag,
-        tptt: (k >> 20 & 3) as u16,
-        ..Header::default()
-    };
-    let mut iu = [0; 16];
-    frame::xfer_rdy_write(&XferRdy { offset, len }, &mut iu);
-    let n = if k >> 22 & 15 == 0 { 10 + (k >> 26 & 3) as usize } else { 12 };
-    let mut out = vec![0; 40];
-    let a = frame::write(&h, &iu[..n], &mut out);
-    out.truncate(a.len);
-    out
 }
 
 /// The run of one seed: its transfer and its events.

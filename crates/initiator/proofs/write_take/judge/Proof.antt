@@ -6,19 +6,19 @@ use Rattle.initiator.proofs.write_take.judge.Tie as tie
 
 returns : tie.Need-returns
 unfolding verdictOf
-returns c = rw (← (c .before .before .before .before .before .before .previous .ensures)) (search choose)
+returns c = rw (← (c .before .before .before .before .before .before .previous .ensures), ← (c .before .before .before .before .repeatable .ensures)) (in-true _ _ _ _ (c .before .if1 .taken) (c .repeated .ensures))
 
 returns-2 : tie.Need-returns-2
 unfolding verdictOf
-returns-2 c = rw (← (c .before .before .before .before .before .before .before .before .before .before .previous .ensures), ← (c .before .before .before .before .before .before .before .before .before .all-handed .ensures)) (search choose)
+returns-2 c = rw (← (c .before .before .before .before .before .before .before .before .before .before .previous .ensures), ← (c .before .before .before .before .before .before .before .before .before .all-handed .ensures), ← (c .before .before .before .before .before .before .before .before .repeatable .ensures)) (search choose)
 
 returns-3 : tie.Need-returns-3
 unfolding verdictOf
-returns-3 c = rw (← (c .before .before .before .before .before .before .before .before .before .previous .ensures), ← (c .before .before .before .before .before .before .before .before .all-handed .ensures)) (search choose)
+returns-3 c = rw (← (c .before .before .before .before .before .before .before .before .before .previous .ensures), ← (c .before .before .before .before .before .before .before .before .all-handed .ensures), ← (c .before .before .before .before .before .before .before .repeatable .ensures)) (search choose)
 
 returns-4 : tie.Need-returns-4
 unfolding verdictOf
-returns-4 c = rw (← (c .before .before .before .before .before .before .before .before .previous .ensures)) (search choose)
+returns-4 c = rw (← (c .before .before .before .before .before .before .before .before .previous .ensures), ← (c .before .before .before .before .before .before .repeatable .ensures)) (search choose)
 
 pub judge-spec : {M : Type 1} → statement M
-judge-spec = tie.close (tie.spec (λ c κs. search needs) (λ c κs. search needs) (λ c κs. search needs) returns (λ c κs. search needs) returns-2 returns-3 returns-4)
+judge-spec = tie.close (tie.spec (λ c κs. search needs) (λ c κs. search needs) (λ c κs. search needs) (λ c κs. search needs) returns (λ c κs. search needs) returns-2 returns-3 returns-4)
