@@ -24,6 +24,7 @@ use Rattle.frame.proofs.Writer.{encode-length}
 use Rattle.receiver.specs.DataFrame.{lentOf, arrivalOf}
 use Rattle.receiver.specs.declared.types.Receiver.{Receiver}
 use Rattle.receiver.proofs.Views as receiver
+use Rattle.transfer.specs.declared.Transfer.{Transfer}
 use Rattle.target.specs.Fields.{tptt≔}
 use Rattle.target.specs.Record.{UNANSWERED, AGAIN, holdsOf}
 use Rattle.target.specs.Answer.{answersOf, retryOf}
@@ -55,37 +56,34 @@ module _ (h : Header) (n : ℕ) (iu : List ℕ) (small : h .flags .tlr < 4) wher
         offset = headerIn (encode h iu) .offset;
       }
 
--- f is the XFER_RDY for y's burst, with some TPTT, sent again or not
+-- the XFER_RDY of a transfer for a burst from base to end, with a TPTT, sent again or not
+abbrev sent : Transfer → ℕ → Bool → ℕ → ℕ → List ℕ
+sent t tptt resent base end =
+    encode
+    (record {
+      kind = XFER-RDY;
+      dest = t .remote;
+      source = t .local;
+      flags = record { tlr = 0; retry = ltb 0 (t .limit); retransmit = resent; cdp = false };
+      tag = t .tag;
+      tptt = tptt;
+      offset = 0;
+    })
+    (xferRdyBytes (record { offset = base; len = end - base }))
+
+-- f is the XFER_RDY for y's burst
 record Last (y : Target) (f : List ℕ) : Type 0 where
   tptt : ℕ
   resent : Bool
-  is : f ≡ encode (xferRdyHeader (y with tptt≔ tptt) resent) (xferRdyIu y)
+  is : f ≡ sent (y .receiver .transfer) tptt resent (y .receiver .base) (y .receiver .end)
 
 last-kept : {y z : Target} {f : List ℕ} → target.Keeps y z → Last y f → Last z f
-unfolding xferRdyHeader xferRdyIu
-last-kept k l =
-    record {
-      tptt = l .tptt;
-      resent = l .resent;
-      is =
-          l .is ∙ λ i.
-          encode
-          (record {
-            kind = XFER-RDY;
-            dest = sym (k .transfer) i .remote;
-            source = sym (k .transfer) i .local;
-            flags = record { tlr = 0; retry = ltb 0 (sym (k .transfer) i .limit); retransmit = l .resent; cdp = false };
-            tag = sym (k .transfer) i .tag;
-            tptt = l .tptt;
-            offset = 0;
-          })
-          (xferRdyBytes (record { offset = sym (k .base) i; len = sym (k .end) i - sym (k .base) i }));
-    }
+last-kept k l = record { tptt = l .tptt; resent = l .resent; is = l .is ∙ λ i. sent (sym (k .transfer) i) (l .tptt) (l .resent) (sym (k .base) i) (sym (k .end) i) }
 
 module _ (y : Target) where
   -- the frame handed out is for the burst that the record then has
   issued-last : Last (issuedOf y) (frameOf y)
-  unfolding frameOf xferRdyHeader
+  unfolding frameOf xferRdyHeader xferRdyIu
   issued-last = record { tptt = issuedOf y .tptt; resent = eqb (y .state) AGAIN; is = refl }
 
   flag : headerIn (frameOf y) .flags .retransmit ≡ eqb (y .state) AGAIN
@@ -116,18 +114,7 @@ module _ (y : Target) where
       small = omega arith
 
       whole : frameOf y ≡ encode (again n h) iu
-      whole i =
-          encode
-          (record {
-            kind = XFER-RDY;
-            dest = r i .transfer .remote;
-            source = r i .transfer .local;
-            flags = record { tlr = 0; retry = ltb 0 (r i .transfer .limit); retransmit = e i; cdp = false };
-            tag = r i .transfer .tag;
-            tptt = n;
-            offset = 0;
-          })
-          (xferRdyBytes (record { offset = r i .base; len = r i .end - r i .base }))
+      whole i = sent (r i .transfer) n (e i) (r i .base) (r i .end)
 
   -- a call hands out y's XFER_RDY, or none, and then transfer and burst stay
   abbrev Turn : Said → List ℕ → Target → Type 0
