@@ -88,7 +88,7 @@ static ssp_answer answer_all(void) {
 }
 
 static void respond(ssp_transfer t) {
-    static const uint8_t iu[IU]; /* status and sense are the caller's; here all zero */
+    static const uint8_t iu[IU]; /* the caller's; here all zero: no data, status 00h, GOOD */
     static uint8_t out[SSP_FRAME_MOST];
     ssp_responder responder = {0};
     ssp_answer a, b;
@@ -97,6 +97,7 @@ static void respond(ssp_transfer t) {
     b = ssp_read_receive_frame(&initiator, out, a.len, received, COUNT);
     printf("RESPONSE  %u bytes  initiator: %s, IU of %u bytes from byte %u\n", (unsigned)a.len, word(b), (unsigned)b.len,
            (unsigned)b.start);
+    show_status(b, out, a.len);
     printf("ACK of the RESPONSE: %s\n", word(ssp_response_ack(&responder)));
 }
 

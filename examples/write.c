@@ -5,7 +5,7 @@
 
 #include "show.h"
 
-enum { COUNT = 24, SIZE = 8, WINDOW = 4, LIMIT = 2, BURST = 12, IU = 24 };
+enum { COUNT = 24, SIZE = 8, WINDOW = 4, LIMIT = 2, BURST = 12, IU = 42 };
 
 enum fate { WHOLE, DAMAGED };
 static const char *const fate_words[] = {"whole", "damaged"};
@@ -70,7 +70,10 @@ static void tell(const char *event, ssp_answer a) {
 }
 
 static void respond(ssp_transfer t) {
-    static const uint8_t iu[IU]; /* status and sense are the caller's; here all zero */
+    /* The caller's: CHECK CONDITION with 18 bytes of sense data in fixed format, EOM at key 0h, 00h/02h: written, and the end of the tape is
+     * near. */
+    static const uint8_t iu[IU] = {0, 0, 0, 0, 0, 0, 0, 0, 0, 0, SSP_DATAPRES_SENSE_DATA, 0x02, 0, 0, 0, 0, 0, 0, 0, 18, 0, 0, 0, 0,
+                                   0x70, 0, 0x40, 0, 0, 0, 0, 10, 0, 0, 0, 0, 0x00, 0x02};
     ssp_responder responder = {0};
     ssp_answer a, b;
     ssp_response_set_up(&responder, t, IU);
@@ -78,6 +81,7 @@ static void respond(ssp_transfer t) {
     b = ssp_write_send_frame(&initiator, frame, a.len);
     printf("RESPONSE  %u bytes  initiator: %s, IU of %u bytes from byte %u, %u frames in the last burst\n", (unsigned)a.len, word(b),
            (unsigned)b.len, (unsigned)b.start, (unsigned)b.frames);
+    show_status(b, frame, a.len);
     printf("ACK of the RESPONSE: %s\n", word(ssp_response_ack(&responder)));
 }
 

@@ -1,9 +1,10 @@
 /* SSP transport retries: frame reader and writer, both ports, XFER_RDY and RESPONSE retry. C99 and C++11, x86-64.
  *
- * "The paper" is the scope paper; numbers 1 to 8 and 20 to 32 are those of its "Trade words".
+ * "The paper" is the scope paper; numbers 1 to 8 and 20 to 32 are those of its "Trade words",
+ * 34 that of request K9.
  *
- * Every function answers an ssp_answer by value. A record is lent by pointer, and the call brings it forward in place. A refusal
- * (SSP_REFUSED, number 1 to 8) leaves the record and every lent byte as they were. A failure (SSP_FAILED, number 20 to 32) ends the record.
+ * Every function but ssp_sense_data answers an ssp_answer by value. A record is lent by pointer, and the call brings it forward in place. A refusal
+ * (SSP_REFUSED, number 1 to 8) leaves the record and every lent byte as they were. A failure (SSP_FAILED, number 20 to 32, 34) ends the record.
  * Numbers stand below in the order in which they are tested: each is given where its condition holds and no earlier one does.
  *
  * What every function asks of its caller; nothing tests it, see README "From C":
@@ -12,7 +13,7 @@
  *   - no buffer overlaps another one of the same call, or the record;
  *   - a bool holds 0 or 1 and nothing else;
  *   - a record is used by one thread at a time, and its buffers are left alone during the call;
- *   - a record is set before it is lent, also to a set-up or a reader: all zero will do; and so is every field of a transfer or a header that is
+ *   - a record is set before it is lent, also to a set-up or a reader: all zero will do (an ssp_part: see ssp_sense_data); and so is every field of a transfer or a header that is
  *     passed by value.
  *
  * What is tested at each call, and answered with 1 where it does not hold: the limits of the transfer, marks and counts of the record,
@@ -53,13 +54,14 @@ enum ssp_number {
     SSP_ACK_NAK_TIMEOUT = 29,
     SSP_CONNECTION_LOST = 30,
     SSP_NEXUS_LOSS = 31,
-    SSP_RESPONSE_IU_TOO_SHORT = 32
+    SSP_RESPONSE_IU_TOO_SHORT = 32,
+    SSP_RESPONSE_DATA_WRONG = 34
 };
 
 /* ssp_answer.what; in brackets the fields that tell more. */
 enum ssp_what {
     SSP_REFUSED = 0,              /* [number 1 to 8] nothing changed */
-    SSP_FAILED = 1,               /* [number 20 to 32, frames] the record has ended */
+    SSP_FAILED = 1,               /* [number 20 to 32 or 34, frames] the record has ended */
     SSP_WAIT = 2,                 /* no frame is due */
     SSP_FRAME = 3,                /* [len] so many bytes stand at the front of the output buffer; after a writer's step: its part of them */
     SSP_TAKEN = 4,                /* the event was taken; nothing to tell */
@@ -73,9 +75,9 @@ enum ssp_what {
     SSP_NEXT_BURST = 12,          /* an XFER_RDY for the next burst was taken; there was none before, or its delivery was reported */
     SSP_NEXT_BURST_DELIVERS = 13, /* [frames] the same; with it the burst before counts as delivered */
     SSP_REPEATED = 14,            /* an XFER_RDY that repeats the burst taken last, its offset and length, was taken */
-    SSP_RESPONSE = 15,            /* [start, len, frames] the command has ended; the RESPONSE's IU is len bytes of the frame from start */
+    SSP_RESPONSE = 15,            /* [start, len, kind, status, sense_len, frames] the command has ended; the RESPONSE's IU is len bytes of the frame from start */
     SSP_READY = 16,               /* a set-up was taken: the record is at its start */
-    SSP_PARSED = 17               /* [start, len] a frame or an XFER_RDY's IU was read */
+    SSP_PARSED = 17               /* [start, len] a frame or an IU was read; [kind, status, sense_len] a RESPONSE's IU */
 };
 
 /* Byte 0 of a frame. */
@@ -85,6 +87,13 @@ enum ssp_type {
     SSP_TYPE_COMMAND = 0x06,
     SSP_TYPE_RESPONSE = 0x07,
     SSP_TYPE_TASK = 0x16
+};
+
+/* ssp_answer.kind: DATAPRES of a RESPONSE's IU, byte 10, bits 1 and 0. */
+enum ssp_datapres {
+    SSP_DATAPRES_NO_DATA = 0,
+    SSP_DATAPRES_RESPONSE_DATA = 1, /* four bytes of the frame from byte start + 24; look at them, whatever the status */
+    SSP_DATAPRES_SENSE_DATA = 2     /* ssp_sense_data gives them */
 };
 
 /* ssp_target.state: how far its XFER_RDY is. */
@@ -108,17 +117,27 @@ enum ssp_limit {
     SSP_IU_MOST = 1024,
     SSP_FRAME_MOST = 1048, /* an output buffer so long is never too short */
     SSP_XFER_RDY_IU = 12,
-    SSP_RESPONSE_IU_LEAST = 24
+    SSP_RESPONSE_IU_LEAST = 24,
+    SSP_SENSE_MOST = 1000
 };
 
-/* What a call answers. A field that the case does not name is 0. */
+/* What a call answers. A field that the case does not name is 0: so status is 0 after a failure or a refusal too, and does not mean GOOD there. */
 typedef struct ssp_answer {
     uint8_t number;  /* the paper's number, or 0 */
     uint8_t what;    /* one of enum ssp_what */
+    uint8_t kind;    /* of a RESPONSE, one of enum ssp_datapres */
+    uint8_t status;  /* of a RESPONSE: the status, byte 11 of its IU */
     uint64_t frames; /* DATA frames handed out since set-up, or since the write burst began */
     size_t start;
     size_t len;
+    size_t sense_len; /* of a RESPONSE: bytes of sense data, 1 to 1,000 of kind 2, 0 of kinds 0 and 1 */
 } ssp_answer;
+
+/* A part of a buffer that the caller lent: len bytes from at. */
+typedef struct ssp_part {
+    const uint8_t *at;
+    size_t len;
+} ssp_part;
 
 /* What both ports of a command are set up with; it never changes. At the other end local and remote are the other way round. */
 typedef struct ssp_transfer {
@@ -256,7 +275,7 @@ ssp_answer ssp_read_receive_set_up(ssp_receiver *receiver, ssp_transfer transfer
 
 /* A frame that came whole, any bytes. DATA goes to its place in the data buffer.
  * 1 (also: data_len is not the byte count), 2, 5, 6, 7, 8; DATA: SSP_DISCARDED (filled), 20, 21, 22, SSP_DISCARDED, SSP_STORED or
- * SSP_RECEIVED; XFER_RDY: 23, 24, 27; RESPONSE: 32, else SSP_RESPONSE (the record has ended). */
+ * SSP_RECEIVED; XFER_RDY: 23, 24, 27; RESPONSE: 32, 34, else SSP_RESPONSE (the record has ended), opened as by ssp_response_iu_read. */
 ssp_answer ssp_read_receive_frame(ssp_receiver *receiver, const uint8_t *bytes, size_t bytes_len, uint8_t *data, size_t data_len);
 
 /* I_T nexus loss. 1, 2, else 31. */
@@ -287,8 +306,8 @@ ssp_answer ssp_write_send_cut(ssp_writer *writer);
 ssp_answer ssp_write_send_nexus_loss(ssp_writer *writer);
 
 /* A frame that came whole, any bytes: XFER_RDY or RESPONSE.
- * 1, 2, 5, 6, 7, 8; XFER_RDY: 23, 24, 27, 26, 25, else SSP_NEXT_BURST, SSP_NEXT_BURST_DELIVERS or SSP_REPEATED; RESPONSE: 32, else
- * SSP_RESPONSE with the frames of the burst in service (the record has ended).
+ * 1, 2, 5, 6, 7, 8; XFER_RDY: 23, 24, 27, 26, 25, else SSP_NEXT_BURST, SSP_NEXT_BURST_DELIVERS or SSP_REPEATED; RESPONSE: 32, 34,
+ * else SSP_RESPONSE with the frames of the burst in service (the record has ended), opened as by ssp_response_iu_read.
  * 25: the length is 0 or, with the offset, passes the byte count; or RETRANSMIT is one, the offset is the base of the burst taken last,
  * started or not, and the length is not that burst's. Before any burst is taken, and where the offset is the end of the one taken last, a
  * resent XFER_RDY is for the next burst, of any length that fits. One that fails does not replace a burst that waits to start. */
@@ -372,6 +391,21 @@ ssp_answer ssp_xfer_rdy_write(ssp_xfer_rdy xfer_rdy, uint8_t *out, size_t out_le
 /* Reads an XFER_RDY's IU, any bytes. 23, 24, else SSP_PARSED. */
 ssp_answer ssp_xfer_rdy_read(ssp_xfer_rdy *xfer_rdy, const uint8_t *iu, size_t iu_len);
 
+/* Reads a RESPONSE's IU (without its fill), any bytes. 32 (under 24 bytes), 34, else SSP_PARSED with kind, status and sense_len; start is 0
+ * and len is iu_len.
+ * 34: kind 3; kind 0 and not 24 bytes; kind 1, and the response length (bytes 20 to 23) is not 4 or the IU not 28 bytes; kind 2, and the
+ * sense length (bytes 16 to 19) is not 1 to 1,000 or the IU is not 24 bytes plus the sense length. Kind 0 looks at neither length, kind 1 not at
+ * the sense length, kind 2 not at the response length; of byte 10 the other bits are ignored. */
+ssp_answer ssp_response_iu_read(const uint8_t *iu, size_t iu_len);
+
+/* The sense data of a RESPONSE as a part of the bytes that were lent: give the answer of the call that took it, and the same bytes again.
+ * That is ssp_read_receive_frame or ssp_write_send_frame with its frame, or ssp_response_iu_read with its IU. Answers the part's length.
+ * Nothing is copied: the part is good while those bytes stay as they are. It is empty after every other answer, so of kinds 0 and 1 and after a
+ * refusal or a failure; where it is empty, do not use at. With other bytes than those of the answer it has the same place in them, and is empty
+ * where they do not reach so far.
+ * Set *part before each call, to { bytes, 0 }; all zero, or a part whose bytes are gone, will not do. It may point into bytes. */
+size_t ssp_sense_data(ssp_part *part, ssp_answer answer, const uint8_t *bytes, size_t bytes_len);
+
 /* ---- The layout that the library was built with. A compiler that lays a record out otherwise stops here. ------------------------------ */
 
 #if defined(__cplusplus)
@@ -388,12 +422,19 @@ SSP_LAYOUT(bool_size, sizeof(bool) == 1);
 SSP_LAYOUT(size_t_size, sizeof(size_t) == 8);
 SSP_LAYOUT(pointer_size, sizeof(void *) == 8);
 
-SSP_SIZE(ssp_answer, 32);
+SSP_SIZE(ssp_answer, 40);
 SSP_AT(ssp_answer, number, 0);
 SSP_AT(ssp_answer, what, 1);
+SSP_AT(ssp_answer, kind, 2);
+SSP_AT(ssp_answer, status, 3);
 SSP_AT(ssp_answer, frames, 8);
 SSP_AT(ssp_answer, start, 16);
 SSP_AT(ssp_answer, len, 24);
+SSP_AT(ssp_answer, sense_len, 32);
+
+SSP_SIZE(ssp_part, 16);
+SSP_AT(ssp_part, at, 0);
+SSP_AT(ssp_part, len, 8);
 
 SSP_SIZE(ssp_transfer, 32);
 SSP_AT(ssp_transfer, count, 0);

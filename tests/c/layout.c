@@ -1,10 +1,12 @@
 /* Each field that C sets is the one that the library sees: every field of every record is set by itself to a telling value, and an answer,
  * a frame's bytes or the record that is left shows that the library reads it there. All functions are called; the writer's two steps are tried
- * apart. What takes frames is tried with each TLR CONTROL in them: the answers are the same. Prints one line. */
+ * apart. RESPONSEs of every kind are opened, each from bytes that stand in layout_response.h. What takes frames is tried with each TLR CONTROL
+ * in them: the answers are the same. Prints one line. */
 #include "layout.h"
 #include "layout_read.h"
 #include "layout_write.h"
 #include "layout_rest.h"
+#include "layout_response.h"
 
 int main(void) {
     unsigned i;
@@ -24,6 +26,7 @@ int main(void) {
     responder_fields();
     header_fields();
     writer_steps();
+    response_opened();
     if (wrong > 0) {
         printf("%u of %u checks failed\n", wrong, checks);
         return 1;

@@ -28,10 +28,16 @@ static uint8_t out[SSP_FRAME_MOST];
 static uint8_t iu[SSP_FRAME_MOST];
 static uint8_t arriving; /* TLR CONTROL of the frames that arrive */
 
-/* ---- answers, all five fields ---- */
+/* ---- answers, all fields ---- */
 
 static int is(ssp_answer a, int what, unsigned number, uint64_t frames, size_t start, size_t len) {
-    return a.what == what && a.number == number && a.frames == frames && a.start == start && a.len == len;
+    return a.what == what && a.number == number && a.frames == frames && a.start == start && a.len == len && a.kind == 0 &&
+           a.status == 0 && a.sense_len == 0;
+}
+/* a RESPONSE, or its IU */
+static int opened(ssp_answer a, int what, uint64_t frames, size_t start, size_t len, unsigned kind, unsigned status, size_t sense) {
+    return a.what == what && a.number == 0 && a.frames == frames && a.start == start && a.len == len && a.kind == kind &&
+           a.status == status && a.sense_len == sense;
 }
 static int refused(ssp_answer a, unsigned number) { return is(a, SSP_REFUSED, number, 0, 0, 0); }
 static int failed(ssp_answer a, unsigned number, uint64_t frames) { return is(a, SSP_FAILED, number, frames, 0, 0); }

@@ -232,8 +232,9 @@ static void receiver_fields(void) {
         ssp_header h = header(SSP_TYPE_RESPONSE, HERE, THERE);
         ssp_answer f;
         h.tlr = arriving;
-        f = ssp_frame_write(h, iu, 25, out, sizeof out);
-        TRY("a RESPONSE in a read", is(ssp_read_receive_frame(&r, out, f.len, room, COUNT), SSP_RESPONSE, 0, 0, 24, 25) && r.ended);
+        iu[10] = 0x54; /* no data */
+        f = ssp_frame_write(h, iu, 24, out, sizeof out);
+        TRY("a RESPONSE in a read", opened(ssp_read_receive_frame(&r, out, f.len, room, COUNT), SSP_RESPONSE, 0, 24, 24, 0, iu[11], 0) && r.ended);
         r = receiver();
         f = ssp_frame_write(h, iu, 23, out, sizeof out);
         TRY("a RESPONSE of 23 bytes", failed(ssp_read_receive_frame(&r, out, f.len, room, COUNT), 32, 0));

@@ -113,9 +113,10 @@ static void writer_fields(void) {
         ssp_header h = header(SSP_TYPE_RESPONSE, HERE, THERE);
         ssp_answer f;
         h.tlr = arriving;
-        f = ssp_frame_write(h, iu, 25, out, sizeof out);
+        iu[10] = 0x54; /* no data */
+        f = ssp_frame_write(h, iu, 24, out, sizeof out);
         w.sender.frames = MANY;
-        TRY("a RESPONSE in a write", is(ssp_write_send_frame(&w, out, f.len), SSP_RESPONSE, 0, MANY, 24, 25) && w.sender.ended);
+        TRY("a RESPONSE in a write", opened(ssp_write_send_frame(&w, out, f.len), SSP_RESPONSE, MANY, 24, 24, 0, iu[11], 0) && w.sender.ended);
         w = writer();
         w.sender.next = 24;
         TRY("a burst delivered", says(ssp_write_send_ack(&w), SSP_TAKEN));

@@ -6,4 +6,7 @@ pub mod TwoSteps
 pub mod Digits
 pub mod RoundTrip
 pub mod Hands
+pub mod ByKind
+pub mod Parts
 pub mod TlrControl
+pub mod ResponseForms

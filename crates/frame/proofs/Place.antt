@@ -9,6 +9,10 @@ use lib.Seq.{take-length, length-take-le, drop-append-le, drop-append-add, drop-
 use borrow.Rule.Slice.PartMut.{putMid, midOf, mid-len}
 use Rattle.frame.specs.Write.{over, placed}
 
+pub empty : (l : List ℕ) → length l ≡ 0 → l ≡ []
+empty [] e = refl
+empty (x ∷ xs) e = absurd (omega arith)
+
 -- what a copy of s into the part of d from a to e leaves in d
 pub copied : (d s : List ℕ) (a e : ℕ) → a + length s ≤ e → e ≤ length d → putMid a (e - a) d (take (length s) s ++ drop (length s) (midOf a (e - a) d)) ≡ placed d a s
 unfolding placed

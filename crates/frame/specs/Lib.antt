@@ -6,3 +6,6 @@ pub mod Reserved
 pub mod TlrControl
 pub mod RoundTrip
 pub mod XferRdy
+pub mod Lent
+pub mod Response
+pub mod ResponseForms

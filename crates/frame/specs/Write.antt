@@ -59,7 +59,7 @@ handing (Said.delivered n) f out = out
 handing Said.stored f out = out
 handing Said.received f out = out
 handing (Said.burst t) f out = out
-handing (Said.response start len n) f out = out
+handing (Said.response start len o n) f out = out
 handing (Said.told w) f out = out
 
 -- a port x has the frame f due, and is y once it is handed out: "3: a frame is due, the output buffer is shorter"

@@ -2,6 +2,8 @@
 mod byte;
 mod decode;
 mod encode;
+mod lent;
+mod response;
 mod types;
 mod xfer_rdy;
 
@@ -9,6 +11,9 @@ pub use decode::read;
 pub use encode::write;
 pub use encode::write_data;
 pub use encode::write_header;
+pub use lent::part;
+pub use response::read_response;
+pub use response::sense_of;
 pub use types::COMMAND;
 pub use types::DATA;
 pub use types::Decoded;
@@ -16,6 +21,7 @@ pub use types::Flags;
 pub use types::Header;
 pub use types::Parsed;
 pub use types::RESPONSE;
+pub use types::ResponseIu;
 pub use types::TASK;
 pub use types::Written;
 pub use types::XFER_RDY;

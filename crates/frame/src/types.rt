@@ -1,5 +1,6 @@
-// The frame types, the header of a frame, the XFER_RDY's IU, and what the writer and the readers answer.
+// The frame types, the header of a frame, the XFER_RDY's IU, and what the writer and the readers answer (of a RESPONSE's IU: status::Opened).
 use status::Failure;
+use status::Opened;
 use status::Refusal;
 
 // The five frame types.
@@ -65,5 +66,10 @@ pub struct XferRdy {
 
 pub enum XferRdyIu {
     Taken(XferRdy),
+    Failed(Failure),
+}
+
+pub enum ResponseIu {
+    Taken(Opened),
     Failed(Failure),
 }

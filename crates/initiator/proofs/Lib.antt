@@ -11,3 +11,4 @@ pub mod WriteEnded
 pub mod WriteKept
 pub mod WriteRepeat
 pub mod TlrControl
+pub mod SenseBack

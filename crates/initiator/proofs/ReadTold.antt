@@ -3,7 +3,6 @@ use Prim.Native.Nat.{ℕ, _+_, _-_, _≤_}
 use mathlib.Core.Bool.{Bool, true, false, not}
 use mathlib.Core.List.{List}
 use mathlib.Core.Path.{_≡_, refl, sym, ap, _∙_}
-use lib.Dec.{ltb}
 use lib.ListN.{length, take, drop}
 use Rattle.status.specs.Pick.{pick}
 use Rattle.status.specs.Entry.{entryOf}
@@ -11,9 +10,10 @@ use Rattle.status.specs.Answer.{Said, Left, _saying_}
 use Rattle.status.specs.Outcome.{Outcome}
 use Rattle.status.specs.declared.entry.Entry.the-variants.{Open}
 use Rattle.status.proofs.Choose.{each}
-use Rattle.status.proofs.Leaves.{picked}
 use Rattle.frame.specs.Read.{headerIn, iuOf}
 use Rattle.frame.specs.XferRdy.{xferRdyOf}
+use Rattle.frame.specs.Response.{responseIuOf}
+use Rattle.status.specs.declared.answer.Opened.{Opened}
 use Rattle.frame.specs.declared.types.XferRdy.{XferRdy}
 use Rattle.arrival.specs.Accept.{acceptOf}
 use Rattle.arrival.specs.declared.Role.the-variants.{ReadInitiator}
@@ -24,7 +24,7 @@ use Rattle.receiver.specs.Record.{holdsOf}
 use Rattle.receiver.specs.DataFrame.{lentOf, arrivalOf, dataStepOf, storing}
 use Rattle.receiver.specs.declared.types.Receiver.{Receiver}
 use Rattle.receiver.proofs.Views.{step-is}
-use Rattle.initiator.specs.Read.{readTests, readHoldsOf, readLentOf, rejectedBy, notExpectedOf, responseOf, takenOf, readArrivalOf}
+use Rattle.initiator.specs.Read.{readTests, readHoldsOf, readLentOf, rejectedBy, notExpectedOf, openedBy, responseOf, takenOf, readArrivalOf}
 
 -- a read's record, with or without its buffer
 pub read-holds : (r : Receiver) → readHoldsOf r ≡ true → (holdsOf r ≡ true) × (not (r .transfer .write) ≡ true)
@@ -65,6 +65,10 @@ not-expected-leaves r x offset iu d = go (xferRdyOf x)
     go (Outcome.number n) = refl
     go (Outcome.value y) = refl
 
-pub response-leaves : (r : Receiver) (start len offset : ℕ) (iu d : List ℕ) → d ≡ storing (responseOf r start len .says) offset iu d
+pub response-leaves : (r : Receiver) (start len : ℕ) (x : List ℕ) (offset : ℕ) (iu d : List ℕ) → d ≡ storing (responseOf r start len x .says) offset iu d
 unfolding responseOf
-response-leaves r start len offset iu d = picked (λ (x : Left Receiver). d ≡ storing (x .says) offset iu d) (ltb len 24) _ _ refl refl
+response-leaves r start len x offset iu d = go (responseIuOf x)
+  where
+    go : (y : Outcome Opened) → d ≡ storing (openedBy y r start len .says) offset iu d
+    go (Outcome.number n) = refl
+    go (Outcome.value o) = refl

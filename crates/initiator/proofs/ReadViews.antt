@@ -3,19 +3,20 @@ use Prim.Native.Nat.{ℕ, _≤_}
 use mathlib.Core.Bool.{Bool, true, false, not}
 use mathlib.Core.List.{List}
 use mathlib.Core.Path.{_≡_, refl, sym, ap, _∙_}
-use lib.Dec.{ltb}
 use lib.ListN.{length, getD}
 use Rattle.status.specs.Entry.{entryOf}
 use Rattle.status.specs.Pick.{pick, _with_}
 use Rattle.status.specs.Answer.{Said, Left, _saying_, stores}
 use Rattle.status.specs.Outcome.{Outcome}
 use Rattle.status.proofs.Opened.{open-entry, ended-entry}
-use Rattle.status.proofs.Leaves.{Leaves, leaves-pick, leaves-unless, picked, unless-gives}
+use Rattle.status.proofs.Leaves.{Leaves, leaves-pick, leaves-unless, unless-gives}
 use Rattle.frame.specs.Format.{DATA, RESPONSE, encode}
 use Rattle.frame.specs.Write.{writable}
 use Rattle.frame.specs.Read.{headerIn}
 use Rattle.frame.specs.RoundTrip.{InRange}
 use Rattle.frame.specs.XferRdy.{xferRdyOf}
+use Rattle.frame.specs.Response.{responseIuOf}
+use Rattle.status.specs.declared.answer.Opened.{Opened}
 use Rattle.frame.specs.declared.types.Header.{Header}
 use Rattle.frame.specs.declared.types.XferRdy.{XferRdy}
 use Rattle.arrival.specs.Accept.{kindOf, acceptOf}
@@ -29,7 +30,7 @@ use Rattle.receiver.specs.DataFrame.{lentOf, arrivalOf}
 use Rattle.receiver.specs.declared.types.Receiver.{Receiver}
 use Rattle.receiver.proofs.Views.{Ended, arrival-leaves}
 use Rattle.receiver.proofs.Kept.{ended-holds, arrival-kept}
-use Rattle.initiator.specs.Read.{readHoldsOf, readLentOf, rejectedBy, notExpectedOf, responseOf, takenOf, arrivedBy, readArrivalOf, readLossOf}
+use Rattle.initiator.specs.Read.{readHoldsOf, readLentOf, rejectedBy, notExpectedOf, openedBy, responseOf, takenOf, arrivedBy, readArrivalOf, readLossOf}
 use Rattle.initiator.proofs.ReadTold.{read-lent-again}
 
 -- DATA that was written for this port reaches the receiving port as it was written
@@ -45,20 +46,24 @@ data-arrives r h iu m e v n k d s g i w =
 -- ── what holds of every arrival ──
 module _ (P : Left Receiver → Type 0) (r : Receiver) (f : List ℕ) (m : ℕ)
     (refused : (n : ℕ) → P (r saying Said.refused n)) (failed : (n : ℕ) → P (failedOf r n)) (arrived : (offset : ℕ) (cdp : Bool) (n : ℕ) → P (arrivalOf r offset cdp n m))
-    (answered : (start len : ℕ) → P ((r with ended≔ true) saying Said.response start len 0)) where
+    (answered : (start len : ℕ) (o : Opened) → P ((r with ended≔ true) saying Said.response start len o 0)) where
   rejected-gives : (y : Outcome XferRdy) → P (rejectedBy y r)
   rejected-gives (Outcome.number n) = failed n
   rejected-gives (Outcome.value x) = failed 27
 
-  pub response-gives : (start len : ℕ) → P (responseOf r start len)
+  opened-gives : (start len : ℕ) (y : Outcome Opened) → P (openedBy y r start len)
+  opened-gives start len (Outcome.number n) = failed n
+  opened-gives start len (Outcome.value o) = answered start len o
+
+  pub response-gives : (start len : ℕ) (iu : List ℕ) → P (responseOf r start len iu)
   unfolding responseOf
-  response-gives start len = picked P (ltb len 24) _ _ (failed 32) (answered start len)
+  response-gives start len iu = opened-gives start len (responseIuOf iu)
 
   kind-gives : (k : Kind) (a : Arrived) → P (takenOf k r a f m)
   unfolding notExpectedOf
   kind-gives Kind.Data a = arrived (a .header .offset) (a .header .flags .cdp) (a .len)
   kind-gives Kind.XferRdy a = rejected-gives (xferRdyOf _)
-  kind-gives Kind.Response a = response-gives (a .start) (a .len)
+  kind-gives Kind.Response a = response-gives (a .start) (a .len) _
   kind-gives Kind.Other a = refused 6
 
   pub arrival-gives : P (readArrivalOf r f m)
@@ -72,14 +77,14 @@ module _ (P : Left Receiver → Type 0) (r : Receiver) (f : List ℕ) (m : ℕ)
 module _ (r : Receiver) where
   -- a refusal changes nothing; a failure and a RESPONSE end the record
   pub read-arrival-leaves : (f : List ℕ) (m : ℕ) → Leaves Ended r (readArrivalOf r f m)
-  read-arrival-leaves f m = arrival-gives (Leaves Ended r) r f m (λ n. refl) (λ n. refl) (λ o c n. arrival-leaves r o c n m) (λ s l. refl)
+  read-arrival-leaves f m = arrival-gives (Leaves Ended r) r f m (λ n. refl) (λ n. refl) (λ o c n. arrival-leaves r o c n m) (λ s l o. refl)
 
   pub read-loss-leaves : Leaves Ended r (readLossOf r)
   read-loss-leaves = leaves-unless Ended r (entryOf (readHoldsOf r) (r .ended)) _ refl
 
   -- every event leaves a well-formed record well-formed
   pub read-arrival-kept : (f : List ℕ) (m : ℕ) → holdsOf r ≡ true → holdsOf (readArrivalOf r f m .left) ≡ true
-  read-arrival-kept f m h = arrival-gives (λ (x : Left Receiver). holdsOf (x .left) ≡ true) r f m (λ n. h) (λ n. ended-holds r h) (λ o c n. arrival-kept r h o c n m) (λ s l. ended-holds r h)
+  read-arrival-kept f m h = arrival-gives (λ (x : Left Receiver). holdsOf (x .left) ≡ true) r f m (λ n. h) (λ n. ended-holds r h) (λ o c n. arrival-kept r h o c n m) (λ s l o. ended-holds r h)
 
   pub read-loss-kept : holdsOf r ≡ true → holdsOf (readLossOf r .left) ≡ true
   read-loss-kept h = unless-gives (λ (x : Left Receiver). holdsOf (x .left) ≡ true) (entryOf (readHoldsOf r) (r .ended)) r _ (λ n. h) (ended-holds r h)
@@ -101,8 +106,12 @@ module _ (r : Receiver) where
       Plain : Left Receiver → Type 0
       Plain x = stores (x .says) ≡ false
 
+      opened : (start len : ℕ) (y : Outcome Opened) → Plain (openedBy y r start len)
+      opened start len (Outcome.number n) = refl
+      opened start len (Outcome.value o) = refl
+
       go : (x : Outcome Arrived) → acceptOf ReadInitiator (r .transfer) f ≡ x → Plain (arrivedBy x r f m)
       go (Outcome.number n) q = refl
       go (Outcome.value a) q =
           let k : a .kind ≡ Kind.Response = sym (ap (λ (b : Arrived). b .kind) (passed (r .transfer) ReadInitiator f a q .is)) ∙ rw e in
-          rw k (picked Plain (ltb (a .len) 24) (failedOf r 32) ((r with ended≔ true) saying Said.response (a .start) (a .len) 0) refl refl)
+          rw k (opened (a .start) (a .len) (responseIuOf _))

@@ -155,7 +155,7 @@ refused-plain (Said.delivered n) e f h = absurd (false≢true e)
 refused-plain Said.stored e f h = absurd (false≢true e)
 refused-plain Said.received e f h = absurd (false≢true e)
 refused-plain (Said.burst t) e f h = absurd (false≢true e)
-refused-plain (Said.response start len n) e f h = absurd (false≢true e)
+refused-plain (Said.response start len o n) e f h = absurd (false≢true e)
 refused-plain (Said.told v) e f h = absurd (false≢true e)
 
 module _ (w : Writer) (d out : List ℕ) where
@@ -184,5 +184,5 @@ arrival-counts w f = go (came w f)
     go : {x : Left Writer} → Came w x → Counts w [] x
     go (Came.refused n) = counts-refused w [] n
     go (Came.failed n) = goes-on w [] (failedOf w n) refl refl (λ h e. (e, sym e))
-    go (Came.answered start len l) = goes-on w [] (endedOf w saying Said.response start len (w .sender .frames)) refl refl (λ h e. (e, sym e))
+    go (Came.answered start len o) = goes-on w [] (endedOf w saying Said.response start len o (w .sender .frames)) refl refl (λ h e. (e, sym e))
     go (Came.taken h x i t) = burst-counts w (askedOf w h x) t

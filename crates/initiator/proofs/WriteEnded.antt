@@ -50,7 +50,7 @@ module _ (w : Writer) where
       go Said.stored e = tt
       go Said.received e = tt
       go (Said.burst t) e = tt
-      go (Said.response start len n) e = e
+      go (Said.response start len o n) e = e
       go (Said.told v) e = word v e
 
   leaves-answered : (x : Left Sender) (n : ℕ) → Leaves core.Ended (w .sender) x → Leaves Ended w (answeredOf w x n)
@@ -100,7 +100,7 @@ module _ (w : Writer) where
       go (Came.refused n) = refl
       go (Came.failed n) = refl
       go (Came.taken h x i t) = burst h x t
-      go (Came.answered start len l) = refl
+      go (Came.answered start len o) = refl
 
   -- an ended record: 1 or 2, whatever is asked of it
   module _ (e : w .sender .ended ≡ true) where

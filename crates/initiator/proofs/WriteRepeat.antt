@@ -16,8 +16,10 @@ use Rattle.status.specs.declared.words.Failure.the-variants.{XferRdyIncorrectWr
 use Rattle.status.proofs.Choose.{and-true}
 use Rattle.status.proofs.Opened.{differ}
 use Rattle.status.proofs.Leaves.{picked}
-use Rattle.frame.specs.Read.{headerIn, iuLength, iuOf}
+use Rattle.frame.specs.Read.{headerIn, iuOf}
 use Rattle.frame.specs.XferRdy.{xferRdyOf}
+use Rattle.frame.specs.Response.{responseIuOf}
+use Rattle.status.specs.declared.answer.Opened.{Opened}
 use Rattle.frame.specs.declared.types.XferRdy.{XferRdy}
 use Rattle.arrival.specs.Accept.{kindOf, acceptOf}
 use Rattle.arrival.specs.declared.Role.the-variants.{WriteInitiator}
@@ -34,7 +36,7 @@ use Rattle.initiator.specs.Fields.{sender≔, pending≔, taken≔}
 use Rattle.initiator.specs.WriteRecord.{holdsOf, beginsOf, startsOf}
 use Rattle.initiator.specs.WriteCount.{takes}
 use Rattle.initiator.specs.WriteSend.{liftedOf, reachedOf, lentOf, heldUp, begunOf, keptOf, nextOf, countedOf, answeredOf, ackOf, nakOf, timeoutOf, cutOf, lossOf}
-use Rattle.initiator.specs.WriteTake.{previous, allHanded, fitsOf, repeatOf, verdictOf, askedOf, reportedOf, nextTaken, burstTaken, judgedBy, sizedBy, xferRdyTaken, responseOf, takenOf, arrivedBy, writeArrivalOf}
+use Rattle.initiator.specs.WriteTake.{previous, allHanded, fitsOf, repeatOf, verdictOf, askedOf, reportedOf, nextTaken, burstTaken, judgedBy, sizedBy, xferRdyTaken, openedBy, responseOf, takenOf, arrivedBy, writeArrivalOf}
 use Rattle.initiator.specs.declared.types.Verdict.{Verdict}
 use Rattle.initiator.specs.declared.types.Verdict.the-variants.{Next, Repeat, Fail}
 use Rattle.initiator.specs.declared.types.Writer.{Writer}
@@ -201,10 +203,14 @@ module _ (w : Writer) (f : List ℕ) where
         sized (Outcome.number n) r t = absurd (false≢true t)
         sized (Outcome.value x) r t = judged x r (verdictOf w x (headerIn f .flags .retransmit)) refl t
 
+    opened : (y : Outcome Opened) → Finds (openedBy y w (from .start) (from .len))
+    opened (Outcome.number n) t = absurd (false≢true t)
+    opened (Outcome.value o) t = absurd (false≢true t)
+
     by-kind : (k : Kind) → kindOf WriteInitiator (headerIn f .kind) ≡ k → Finds (takenOf k w from f)
     unfolding responseOf
     by-kind Kind.XferRdy e t = took-xfer-rdy e t
-    by-kind Kind.Response e t = picked Finds (ltb (iuLength f) 24) _ _ (λ t. absurd (false≢true t)) (λ t. absurd (false≢true t)) t
+    by-kind Kind.Response e t = opened (responseIuOf (iuOf f)) t
     by-kind Kind.Data e t = absurd (false≢true t)
     by-kind Kind.Other e t = absurd (false≢true t)
 

@@ -121,7 +121,7 @@ kept-sender w y a = go (y .says) a
     go Said.stored a = refl
     go Said.received a = refl
     go (Said.burst t) a = refl
-    go (Said.response start len n) a = refl
+    go (Said.response start len o n) a = refl
     go (Said.told v) a = refl
 
 -- ── an XFER_RDY ──

@@ -4,16 +4,16 @@ use mathlib.Core.Bool.{Bool, true, false}
 use mathlib.Core.List.{List}
 use mathlib.Core.Logic.{_⊎_, inl, inr}
 use mathlib.Core.Path.{_≡_, refl, sym, ap, subst, _∙_}
-use lib.Dec.{ltb}
 use lib.ListN.{getD, take, drop}
-use borrow.Author.Tests.{ltb-false}
 use Rattle.status.specs.Pick.{pick}
 use Rattle.status.specs.Entry.{entryOf}
 use Rattle.status.specs.Answer.{Taking, Said, Left, _saying_}
 use Rattle.status.specs.Outcome.{Outcome}
-use Rattle.status.proofs.Leaves.{picked, unless-gives}
+use Rattle.status.proofs.Leaves.{unless-gives}
 use Rattle.frame.specs.Format.{RESPONSE}
 use Rattle.frame.specs.XferRdy.{xferRdyOf}
+use Rattle.frame.specs.Response.{responseIuOf}
+use Rattle.status.specs.declared.answer.Opened.{Opened}
 use Rattle.frame.specs.Read.{headerIn, iuLength, iuOf}
 use Rattle.frame.specs.declared.types.Header.{Header}
 use Rattle.frame.specs.declared.types.XferRdy.{XferRdy}
@@ -23,7 +23,7 @@ use Rattle.arrival.specs.declared.Kind.{Kind}
 use Rattle.arrival.specs.declared.Arrived.{Arrived}
 use Rattle.arrival.proofs.Passed.{passed}
 use Rattle.initiator.specs.WriteRecord.{holdsOf}
-use Rattle.initiator.specs.WriteTake.{endedOf, failedOf, askedOf, reportedOf, nextTaken, verdictOf, burstTaken, judgedBy, sizedBy, xferRdyTaken, responseOf, takenOf, arrivedBy, writeArrivalOf}
+use Rattle.initiator.specs.WriteTake.{endedOf, failedOf, askedOf, reportedOf, nextTaken, verdictOf, burstTaken, judgedBy, sizedBy, xferRdyTaken, openedBy, responseOf, takenOf, arrivedBy, writeArrivalOf}
 use Rattle.initiator.specs.declared.types.Verdict.{Verdict}
 use Rattle.initiator.specs.declared.types.Verdict.the-variants.{Next, Repeat, Fail}
 use Rattle.initiator.specs.declared.types.Writer.{Writer}
@@ -39,7 +39,7 @@ pub data Came (w : Writer) : Left Writer → Type 0 where
   refused : (n : ℕ) → Came w (w saying Said.refused n)
   failed : (n : ℕ) → Came w (failedOf w n)
   taken : (h : Header) (x : XferRdy) → Fits w x → {a : Said} → Takes w a → Came w (burstTaken w (askedOf w h x) a)
-  answered : (start len : ℕ) → 24 ≤ len → Came w (endedOf w saying Said.response start len (w .sender .frames))
+  answered : (start len : ℕ) (o : Opened) → Came w (endedOf w saying Said.response start len o (w .sender .frames))
 
 module _ (w : Writer) where
   next-takes : Takes w (nextTaken w)
@@ -66,17 +66,17 @@ module _ (w : Writer) where
       go (Outcome.number n) = failed n
       go (Outcome.value x) = judged h x
 
-  response : (start len : ℕ) → Came w (responseOf w start len)
-  unfolding responseOf pick
-  response start len = go (ltb len 24) refl
+  response : (start len : ℕ) (iu : List ℕ) → Came w (responseOf w start len iu)
+  unfolding responseOf
+  response start len iu = go (responseIuOf iu)
     where
-      go : (t : Bool) → ltb len 24 ≡ t → Came w (pick t (failedOf w 32) (endedOf w saying Said.response start len (w .sender .frames)))
-      go true e = failed 32
-      go false e = answered start len (ltb-false _ _ e)
+      go : (y : Outcome Opened) → Came w (openedBy y w start len)
+      go (Outcome.number n) = failed n
+      go (Outcome.value o) = answered start len o
 
   by-kind : (k : Kind) (a : Arrived) (f : List ℕ) → Came w (takenOf k w a f)
   by-kind Kind.XferRdy a f = xfer-rdy (a .header) _
-  by-kind Kind.Response a f = response (a .start) (a .len)
+  by-kind Kind.Response a f = response (a .start) (a .len) _
   by-kind Kind.Data a f = refused 6
   by-kind Kind.Other a f = refused 6
 
@@ -96,8 +96,12 @@ module _ (w : Writer) where
       Ends : Left Writer → Type 0
       Ends x = (x .left ≡ w) ⊎ (x .left ≡ endedOf w)
 
+      opened : (start len : ℕ) (y : Outcome Opened) → Ends (openedBy y w start len)
+      opened start len (Outcome.number n) = inr refl
+      opened start len (Outcome.value o) = inr refl
+
       go : (x : Outcome Arrived) → acceptOf WriteInitiator (w .sender .transfer) f ≡ x → Ends (arrivedBy x w f)
       go (Outcome.number n) q = inl refl
       go (Outcome.value a) q =
           let k : a .kind ≡ Kind.Response = sym (ap (λ (b : Arrived). b .kind) (passed (w .sender .transfer) WriteInitiator f a q .is)) ∙ rw e in
-          rw k (picked Ends (ltb (a .len) 24) (failedOf w 32) (endedOf w saying Said.response (a .start) (a .len) (w .sender .frames)) (inr refl) (inr refl))
+          rw k (opened (a .start) (a .len) (responseIuOf _))

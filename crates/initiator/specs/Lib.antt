@@ -4,3 +4,4 @@ pub mod WriteRecord
 pub mod WriteCount
 pub mod WriteSend
 pub mod WriteTake
+pub mod Sense

@@ -3,12 +3,13 @@ use Prim.Native.Nat.{ℕ}
 use mathlib.Core.List.{List, [], _∷_}
 use mathlib.Core.Bool.{Bool, true, not}
 use lib.ListN.{take, drop}
-use lib.Dec.{ltb}
-use Rattle.status.specs.Pick.{pick, all, _with_}
+use Rattle.status.specs.Pick.{all, _with_}
 use Rattle.status.specs.Entry.{entryOf}
 use Rattle.status.specs.Answer.{Said, Left, _saying_, unless}
 use Rattle.status.specs.Outcome.{Outcome}
+use Rattle.status.specs.declared.answer.Opened.{Opened}
 use Rattle.frame.specs.XferRdy.{xferRdyOf}
+use Rattle.frame.specs.Response.{responseIuOf}
 use Rattle.frame.specs.declared.types.XferRdy.{XferRdy}
 use Rattle.arrival.specs.Accept.{acceptOf}
 use Rattle.arrival.specs.declared.Role.the-variants.{ReadInitiator}
@@ -38,15 +39,19 @@ rejectedBy (Outcome.value x) r = failedOf r 27
 unfoldable pub notExpectedOf : Receiver → List ℕ → Left Receiver
 notExpectedOf r iu = rejectedBy (xferRdyOf iu) r
 
--- "32: under 24 bytes"; "a RESPONSE ends the command"
-unfoldable pub responseOf : Receiver → ℕ → ℕ → Left Receiver
-responseOf r start len = pick (ltb len 24) (failedOf r 32) ((r with ended≔ true) saying Said.response start len 0)
+-- 32, 34, else "a RESPONSE ends the command", and what its IU says comes back (request K9)
+abbrev pub openedBy : Outcome Opened → Receiver → ℕ → ℕ → Left Receiver
+openedBy (Outcome.number n) r start len = failedOf r n
+openedBy (Outcome.value o) r start len = (r with ended≔ true) saying Said.response start len o 0
+
+unfoldable pub responseOf : Receiver → ℕ → ℕ → List ℕ → Left Receiver
+responseOf r start len iu = openedBy (responseIuOf iu) r start len
 
 -- a frame f that has passed 5 to 8, by what it is taken for, at a buffer of m bytes
 abbrev pub takenOf : Kind → Receiver → Arrived → List ℕ → ℕ → Left Receiver
 takenOf Kind.Data r a f m = arrivalOf r (a .header .offset) (a .header .flags .cdp) (a .len) m
 takenOf Kind.XferRdy r a f m = notExpectedOf r (take (a .len) (drop (a .start) f))
-takenOf Kind.Response r a f m = responseOf r (a .start) (a .len)
+takenOf Kind.Response r a f m = responseOf r (a .start) (a .len) (take (a .len) (drop (a .start) f))
 takenOf Kind.Other r a f m = r saying Said.refused 6
 
 abbrev pub arrivedBy : Outcome Arrived → Receiver → List ℕ → ℕ → Left Receiver

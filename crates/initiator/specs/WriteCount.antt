@@ -18,7 +18,7 @@ takes (Said.frame n) = false
 takes (Said.delivered n) = false
 takes Said.stored = false
 takes Said.received = false
-takes (Said.response start len n) = false
+takes (Said.response start len o n) = false
 takes (Said.told w) = false
 
 -- a burst started in this call: the one that was pending, or the one that was taken now

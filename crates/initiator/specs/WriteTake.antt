@@ -10,7 +10,9 @@ use Rattle.status.specs.Number.{failureNumber}
 use Rattle.status.specs.Answer.{Taking, Said, Left, _saying_, unless}
 use Rattle.status.specs.Outcome.{Outcome}
 use Rattle.status.specs.declared.words.Failure.the-variants.{XferRdyIncorrectWriteDataLength, XferRdyRequestedOffsetError, XferRdyNotExpected}
+use Rattle.status.specs.declared.answer.Opened.{Opened}
 use Rattle.frame.specs.XferRdy.{xferRdyOf}
+use Rattle.frame.specs.Response.{responseIuOf}
 use Rattle.frame.specs.declared.types.Header.{Header}
 use Rattle.frame.specs.declared.types.XferRdy.{XferRdy}
 use Rattle.arrival.specs.Accept.{acceptOf}
@@ -88,14 +90,18 @@ sizedBy (Outcome.value x) w h = judgedBy (verdictOf w x (h .flags .retransmit)) 
 unfoldable pub xferRdyTaken : Writer → Header → List ℕ → Left Writer
 xferRdyTaken w h iu = sizedBy (xferRdyOf iu) w h
 
--- "32: under 24 bytes"; "a RESPONSE ends the command"
-unfoldable pub responseOf : Writer → ℕ → ℕ → Left Writer
-responseOf w start len = pick (ltb len 24) (failedOf w 32) (endedOf w saying Said.response start len (w .sender .frames))
+-- 32, 34, else "a RESPONSE ends the command", and what its IU says comes back (request K9)
+abbrev pub openedBy : Outcome Opened → Writer → ℕ → ℕ → Left Writer
+openedBy (Outcome.number n) w start len = failedOf w n
+openedBy (Outcome.value o) w start len = endedOf w saying Said.response start len o (w .sender .frames)
+
+unfoldable pub responseOf : Writer → ℕ → ℕ → List ℕ → Left Writer
+responseOf w start len iu = openedBy (responseIuOf iu) w start len
 
 -- a frame f that has passed 5 to 8, by what it is taken for
 abbrev pub takenOf : Kind → Writer → Arrived → List ℕ → Left Writer
 takenOf Kind.XferRdy w a f = xferRdyTaken w (a .header) (take (a .len) (drop (a .start) f))
-takenOf Kind.Response w a f = responseOf w (a .start) (a .len)
+takenOf Kind.Response w a f = responseOf w (a .start) (a .len) (take (a .len) (drop (a .start) f))
 takenOf Kind.Data w a f = w saying Said.refused 6
 takenOf Kind.Other w a f = w saying Said.refused 6
 

@@ -1,5 +1,6 @@
 // The initiator port: what arrives at the host, and what it sends in a write command. A read's record is the receiving port's own (crate receiver).
 mod read;
+mod sense;
 mod types;
 mod write_record;
 mod write_send;
@@ -7,6 +8,7 @@ mod write_take;
 
 pub use read::read_frame_received;
 pub use read::read_nexus_lost;
+pub use sense::sense_data;
 pub use types::WriteSetup;
 pub use types::WriteStepped;
 pub use types::Writer;

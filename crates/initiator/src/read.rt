@@ -5,20 +5,24 @@ ghost use Prim.Native.Nat.{_+_, _≤_};
 ghost use lib.ListN.{length, take, drop};
 ghost use Rattle.status.specs.Number.{refusalNumber, failureNumber};
 ghost use Rattle.status.specs.Answer.{Said, _saying_};
+ghost use Rattle.status.specs.Outcome.{Outcome};
 ghost use Rattle.frame.specs.Read.{headerIn, iuOf};
 ghost use Rattle.receiver.specs.Record.{stepped, failedOf};
 ghost use Rattle.receiver.specs.DataFrame.{lentOf, storing};
-ghost use Rattle.initiator.specs.Read.{notExpectedOf, responseOf, takenOf, readArrivalOf, readLossOf};
+ghost use Rattle.initiator.specs.Read.{notExpectedOf, openedBy, responseOf, takenOf, readArrivalOf, readLossOf};
 use arrival::Accepted;
 use arrival::Arrived;
 use arrival::Kind;
 use arrival::Role;
+use frame::ResponseIu;
 use frame::XferRdyIu;
 use receiver::Receiver;
 use receiver::Stepped;
 use status::Answer;
 use status::Entry;
 use status::Failure;
+use status::Opened;
+use status::Part;
 use status::Refusal;
 
 // A refusal leaves the record as it was.
@@ -52,21 +56,28 @@ fn not_expected(r: Receiver, iu: &[u8]) -> Stepped
     }
 }
 
-// A RESPONSE: 32 under 24 bytes, else the command has ended.
-fn response(mut r: Receiver, start: usize, len: usize) -> Stepped
-    ensures { λ x. ⌜ stepped x ≡ responseOf r start len ⌝ }
+// The command has ended, with what the RESPONSE says.
+fn opened(mut r: Receiver, iu: Part, o: Opened) -> Stepped
+    ensures { λ x. ⌜ stepped x ≡ openedBy (Outcome.value o) r (iu .start) (iu .len) ⌝ }
 {
-    if len < 24 {
-        return failed(r, Failure::ResponseTooShort);
-    }
     r.ended = true;
     Stepped {
         receiver: r,
         answer: Answer::Response {
-            start: start,
-            len: len,
+            iu: iu,
+            opened: o,
             frames: 0,
         },
+    }
+}
+
+// A RESPONSE, its IU at that place of the frame: 32, 34, else the command has ended.
+fn response(r: Receiver, at: Part, iu: &[u8]) -> Stepped
+    ensures { λ x. ⌜ stepped x ≡ responseOf r (at .start) (at .len) (now (iu .entry)) ⌝ }
+{
+    match frame::read_response(iu) {
+        ResponseIu::Failed(why) => failed(r, why),
+        ResponseIu::Taken(o) => opened(r, at, o),
     }
 }
 
@@ -80,19 +91,23 @@ fn take(r: Receiver, a: Arrived, bytes: &[u8], buffer: &mut [u8]) -> Stepped
     let start = a.start;
     let past = start + a.len;
     let iu = &bytes[start..past];
+    let at = Part {
+        start: start,
+        len: a.len,
+    };
     match kind {
         Kind::Data => {
             let flags = h.flags;
             receiver::data_step(r, h.offset, flags.cdp, iu, buffer)
         }
         Kind::XferRdy => not_expected(r, iu),
-        Kind::Response => response(r, start, a.len),
+        Kind::Response => response(r, at, iu),
         Kind::Other => refused(r, Refusal::UnexpectedFrameType),
     }
 }
 
-// 1, 2, 5, 6, 7, 8; DATA as the receiving port: discarded (filled), 20, 21, 22, discarded, stored or received; XFER_RDY 23, 24, 27; RESPONSE 32, else where
-// its IU stands.
+// 1, 2, 5, 6, 7, 8; DATA as the receiving port: discarded (filled), 20, 21, 22, discarded, stored or received; XFER_RDY 23, 24, 27; RESPONSE 32, 34,
+// else where its IU stands, kind, status and bytes of sense data.
 pub fn read_frame_received(r: Receiver, bytes: &[u8], buffer: &mut [u8]) -> Stepped
     ensures { λ x. ⌜ (stepped x ≡ readArrivalOf r (now (bytes .entry)) (length (now (buffer .entry)))) × (now (buffer .exit) ≡ storing (readArrivalOf r (now (bytes .entry)) (length (now (buffer .entry))) .says) (headerIn (now (bytes .entry)) .offset) (iuOf (now (bytes .entry))) (now (buffer .entry))) ⌝ }
 {

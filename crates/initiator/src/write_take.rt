@@ -6,11 +6,12 @@ ghost use Prim.Native.Nat.{_+_, _^_, _≤_, _<_};
 ghost use lib.Dec.{ltb};
 ghost use lib.ListN.{length, take};
 ghost use Rattle.status.specs.Answer.{says};
+ghost use Rattle.status.specs.Outcome.{Outcome};
 ghost use Rattle.status.specs.Number.{failureNumber};
 ghost use Rattle.transfer.specs.Limits.{limitsHold};
 ghost use Rattle.initiator.specs.WriteRecord.{stepped};
 ghost use Rattle.initiator.specs.WriteCount.{Counts};
-ghost use Rattle.initiator.specs.WriteTake.{endedOf, failedOf, previous, allHanded, fitsOf, repeatOf, verdictOf, limitOf, askedOf, nextTaken, burstTaken, xferRdyTaken, responseOf, takenOf, writeArrivalOf};
+ghost use Rattle.initiator.specs.WriteTake.{endedOf, failedOf, previous, allHanded, fitsOf, repeatOf, verdictOf, limitOf, askedOf, nextTaken, burstTaken, xferRdyTaken, openedBy, responseOf, takenOf, writeArrivalOf};
 use crate::types::Verdict;
 use crate::types::WriteStepped;
 use crate::types::Writer;
@@ -20,12 +21,15 @@ use arrival::Arrived;
 use arrival::Kind;
 use arrival::Role;
 use frame::Header;
+use frame::ResponseIu;
 use frame::XferRdy;
 use frame::XferRdyIu;
 use sender::Burst;
 use status::Answer;
 use status::Entry;
 use status::Failure;
+use status::Opened;
+use status::Part;
 use status::Refusal;
 
 // The record has ended: nothing is unanswered and no NAK pending.
@@ -199,21 +203,28 @@ fn xfer_rdy(w: Writer, h: Header, iu: &[u8]) -> WriteStepped
     }
 }
 
-// A RESPONSE: 32 under 24 bytes, else the command has ended.
-fn response(w: Writer, start: usize, len: usize) -> WriteStepped
-    ensures { λ r. ⌜ stepped r ≡ responseOf w start len ⌝ }
+// The command has ended, with what the RESPONSE says.
+fn opened(w: Writer, iu: Part, o: Opened) -> WriteStepped
+    ensures { λ r. ⌜ stepped r ≡ openedBy (Outcome.value o) w (iu .start) (iu .len) ⌝ }
 {
-    if len < 24 {
-        return failed(w, Failure::ResponseTooShort);
-    }
     let s = w.sender;
     WriteStepped {
         writer: ended(w),
         answer: Answer::Response {
-            start: start,
-            len: len,
+            iu: iu,
+            opened: o,
             frames: s.frames,
         },
+    }
+}
+
+// A RESPONSE, its IU at that place of the frame: 32, 34, else the command has ended.
+fn response(w: Writer, at: Part, iu: &[u8]) -> WriteStepped
+    ensures { λ r. ⌜ stepped r ≡ responseOf w (at .start) (at .len) (now (iu .entry)) ⌝ }
+{
+    match frame::read_response(iu) {
+        ResponseIu::Failed(why) => failed(w, why),
+        ResponseIu::Taken(o) => opened(w, at, o),
     }
 }
 
@@ -226,15 +237,21 @@ fn take(w: Writer, a: Arrived, bytes: &[u8]) -> WriteStepped
     let h = a.header;
     let start = a.start;
     let past = start + a.len;
+    let iu = &bytes[start..past];
+    let at = Part {
+        start: start,
+        len: a.len,
+    };
     match kind {
-        Kind::XferRdy => xfer_rdy(w, h, &bytes[start..past]),
-        Kind::Response => response(w, start, a.len),
+        Kind::XferRdy => xfer_rdy(w, h, iu),
+        Kind::Response => response(w, at, iu),
         Kind::Data => write_record::refused(w, Refusal::UnexpectedFrameType),
         Kind::Other => write_record::refused(w, Refusal::UnexpectedFrameType),
     }
 }
 
-// 1, 2, 5, 6, 7, 8; XFER_RDY 23, 24, 27, 26, 25, else which burst it is for; RESPONSE 32, else where its IU stands.
+// 1, 2, 5, 6, 7, 8; XFER_RDY 23, 24, 27, 26, 25, else which burst it is for; RESPONSE 32, 34, else where its IU stands,
+// kind, status and bytes of sense data.
 pub fn write_frame_received(w: Writer, bytes: &[u8]) -> WriteStepped
     ensures { λ r. ⌜ (stepped r ≡ writeArrivalOf w (now (bytes .entry))) × Counts w [] (stepped r) ⌝ }
 {

@@ -38,7 +38,7 @@ noted-is Nothing (Said.frame n) = refl
 noted-is Nothing Said.stored = refl
 noted-is Nothing Said.received = refl
 noted-is Nothing (Said.burst t) = refl
-noted-is Nothing (Said.response start len n) = refl
+noted-is Nothing (Said.response start len o n) = refl
 noted-is Nothing (Said.told w) = refl
 noted-is (Delivered m) (Said.delivered n) = refl
 noted-is (Delivered m) (Said.failed f n) = refl
@@ -47,7 +47,7 @@ noted-is (Delivered m) (Said.frame n) = refl
 noted-is (Delivered m) Said.stored = refl
 noted-is (Delivered m) Said.received = refl
 noted-is (Delivered m) (Said.burst t) = refl
-noted-is (Delivered m) (Said.response start len n) = refl
+noted-is (Delivered m) (Said.response start len o n) = refl
 noted-is (Delivered m) (Said.told w) = refl
 noted-is (Failed g m) (Said.delivered n) = refl
 noted-is (Failed g m) (Said.failed f n) = refl
@@ -56,7 +56,7 @@ noted-is (Failed g m) (Said.frame n) = refl
 noted-is (Failed g m) Said.stored = refl
 noted-is (Failed g m) Said.received = refl
 noted-is (Failed g m) (Said.burst t) = refl
-noted-is (Failed g m) (Said.response start len n) = refl
+noted-is (Failed g m) (Said.response start len o n) = refl
 noted-is (Failed g m) (Said.told w) = refl
 
 -- a timeout after a loss is not early

@@ -34,7 +34,7 @@ Fair (Said.delivered n) = ⊥
 Fair Said.stored = Unit {0}
 Fair Said.received = Unit {0}
 Fair (Said.burst t) = Unit {0}
-Fair (Said.response start len n) = Unit {0}
+Fair (Said.response start len o n) = Unit {0}
 Fair (Said.told w) = Unit {0}
 
 pub record Embeds (P : Ports) : Type 0 where

@@ -123,7 +123,7 @@ module _ {P : Ports} (E : Embeds P) (start : World P) (end : ℕ) (fs d : List �
     answered y Said.stored lent p g = waits y g
     answered y Said.received lent p g = waits y g
     answered y (Said.burst t) lent p g = waits y g
-    answered y (Said.response start len n) lent p g = waits y g
+    answered y (Said.response start len o n) lent p g = waits y g
     answered y (Said.told w) lent p g = waits y g
 
     asked : (out : List ℕ) → StandsAfter (askedBy l (askOf (l .sending) d out) fs b)

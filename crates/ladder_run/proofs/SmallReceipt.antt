@@ -9,6 +9,7 @@ use Rattle.status.specs.Entry.{entryOf}
 use Rattle.status.specs.Number.{refusalNumber}
 use Rattle.status.specs.Answer.{Word, Said, Left, number, unless}
 use Rattle.status.specs.Outcome.{Outcome}
+use Rattle.status.specs.declared.answer.Opened.{Opened}
 use Rattle.status.specs.declared.words.Refusal.{Refusal}
 use Rattle.status.specs.declared.words.Refusal.the-variants.{BadRequest, TransferEnded, FrameSpaceShort, AnswerWithoutFrame, MalformedFrame, UnexpectedFrameType, WrongAddress, UnknownTag}
 use Rattle.status.specs.declared.entry.Entry.{Entry}
@@ -18,6 +19,7 @@ use Rattle.transfer.specs.declared.Transfer.{Transfer}
 use Rattle.frame.specs.Format.{isType}
 use Rattle.frame.specs.Read.{decode, parsed, wellFormed}
 use Rattle.frame.specs.XferRdy.{xferRdyOf}
+use Rattle.frame.specs.Response.{kindIn, needing, byKind, responseIuOf}
 use Rattle.frame.specs.declared.types.Parsed.{Parsed}
 use Rattle.frame.specs.declared.types.XferRdy.{XferRdy}
 use Rattle.arrival.specs.Accept.{isTaken, screenOf, screened, kindOf, acceptOf}
@@ -44,9 +46,9 @@ use Rattle.ladder_run.specs.declared.types.Receiving.the-variants as rec
 
 -- the numbers of "Trade words" end with 32
 abbrev Numbered : Said → Type 0
-Numbered x = number x ≤ 32
+Numbered x = number x ≤ 34
 
-refusal-most : (why : Refusal) → refusalNumber why ≤ 32
+refusal-most : (why : Refusal) → refusalNumber why ≤ 34
 refusal-most BadRequest = omega arith
 refusal-most TransferEnded = omega arith
 refusal-most FrameSpaceShort = omega arith
@@ -62,7 +64,7 @@ entered (Closed why) x y h = refusal-most why
 
 -- an outcome's number, if it is one
 abbrev Within : {X : Type 0} → Outcome X → Type 0
-Within (Outcome.number n) = n ≤ 32
+Within (Outcome.number n) = n ≤ 34
 Within (Outcome.value x) = Unit {0}
 
 decoded : (f : List ℕ) → Within (decode f)
@@ -106,9 +108,22 @@ xfer-rdy-numbered r iu = go (xferRdyOf iu) (picked Within (ltb (length iu) 12) _
     go (Outcome.number n) h = h
     go (Outcome.value x) h = omega arith
 
-response-numbered : (r : Receiver) (start len : ℕ) → Numbered (reading.responseOf r start len .says)
+response-within : (iu : List ℕ) → Within (responseIuOf iu)
+unfolding responseIuOf byKind
+response-within iu =
+    let needed : (t : Bool) (n : ℕ) → Within (needing t iu n) = λ t n. picked Within t _ _ tt (omega arith) in
+    picked Within (ltb (length iu) 24) _ _ (omega arith)
+    (picked Within (eqb (kindIn iu) 0) _ _ (needed _ _)
+    (picked Within (eqb (kindIn iu) 1) _ _ (needed _ _)
+    (picked Within (eqb (kindIn iu) 2) _ _ (needed _ _) (omega arith))))
+
+response-numbered : (r : Receiver) (start len : ℕ) (iu : List ℕ) → Numbered (reading.responseOf r start len iu .says)
 unfolding reading.responseOf
-response-numbered r start len = picked (λ (x : Left Receiver). Numbered (x .says)) (ltb len 24) _ _ (omega arith) (omega arith)
+response-numbered r start len iu = go (responseIuOf iu) (response-within iu)
+  where
+    go : (x : Outcome Opened) → Within x → Numbered (reading.openedBy x r start len .says)
+    go (Outcome.number n) h = h
+    go (Outcome.value o) h = omega arith
 
 read-numbered : (r : Receiver) (f : List ℕ) (m : ℕ) → Numbered (reading.readArrivalOf r f m .says)
 unfolding reading.readArrivalOf
@@ -117,7 +132,7 @@ read-numbered r f m = entered (entryOf (reading.readLentOf r m) (r .ended)) r _ 
     by-kind : (k : Kind) (a : Arrived) → Numbered (reading.takenOf k r a f m .says)
     by-kind Kind.Data a = data-numbered r (a .header .offset) (a .header .flags .cdp) (a .len) m
     by-kind Kind.XferRdy a = xfer-rdy-numbered r _
-    by-kind Kind.Response a = response-numbered r (a .start) (a .len)
+    by-kind Kind.Response a = response-numbered r (a .start) (a .len) _
     by-kind Kind.Other a = omega arith
 
     go : (x : Outcome Arrived) → Within x → Numbered (reading.arrivedBy x r f m .says)
@@ -136,7 +151,7 @@ write-numbered y f m = entered (entryOf (writing.lentOf y m) (y .receiver .ended
         (picked (λ (x : Left Target). Numbered (x .says)) (eqb (y .state) READY) _ _
         (data-numbered (y .receiver) (a .header .offset) (a .header .flags .cdp) (a .len) m) (omega arith)) (omega arith)
 
-pub arrival-numbered : (r : Receiving) (f b : List ℕ) → number (arriveOf r f b .says) ≤ 32
+pub arrival-numbered : (r : Receiving) (f b : List ℕ) → number (arriveOf r f b .says) ≤ 34
 arrival-numbered (receiving.Read r) f b = read-numbered r f (length b)
 arrival-numbered (receiving.Write y) f b = write-numbered y f (length b)
 
@@ -144,10 +159,10 @@ arrival-numbered (receiving.Write y) f b = write-numbered y f (length b)
 abbrev Brief : Receipt → Type 0
 Brief x = (length (receiptWord x) ≤ 9) × ReceiptFits x
 
-number-brief : (n : ℕ) → n ≤ 32 → Brief (Number n)
+number-brief : (n : ℕ) → n ≤ 34 → Brief (Number n)
 number-brief n h = (omega (arith, digits-most 1 n (omega arith)), omega arith)
 
-pub receipt-brief : (x : Said) → number x ≤ 32 → (length (receiptWord (receiptOf x)) ≤ 9) × ReceiptFits (receiptOf x)
+pub receipt-brief : (x : Said) → number x ≤ 34 → (length (receiptWord (receiptOf x)) ≤ 9) × ReceiptFits (receiptOf x)
 receipt-brief Said.stored h = (omega arith, tt)
 receipt-brief Said.received h = (omega arith, tt)
 receipt-brief (Said.told Word.discarded) h = (omega arith, tt)
@@ -156,7 +171,7 @@ receipt-brief (Said.failed f n) h = number-brief f h
 receipt-brief (Said.frame n) h = number-brief 0 h
 receipt-brief (Said.delivered n) h = number-brief 0 h
 receipt-brief (Said.burst t) h = number-brief 0 h
-receipt-brief (Said.response start len n) h = number-brief 0 h
+receipt-brief (Said.response start len o n) h = number-brief 0 h
 receipt-brief (Said.told Word.wait) h = number-brief 0 h
 receipt-brief (Said.told Word.taken) h = number-brief 0 h
 receipt-brief (Said.told Word.retry) h = number-brief 0 h

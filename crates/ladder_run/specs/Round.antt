@@ -24,7 +24,7 @@ reportOf (Said.frame n) = Nothing
 reportOf Said.stored = Nothing
 reportOf Said.received = Nothing
 reportOf (Said.burst t) = Nothing
-reportOf (Said.response start len n) = Nothing
+reportOf (Said.response start len o n) = Nothing
 reportOf (Said.told w) = Nothing
 
 -- the first report stays

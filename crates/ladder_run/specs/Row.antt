@@ -40,7 +40,7 @@ handed (Said.delivered n) = 0
 handed Said.stored = 0
 handed Said.received = 0
 handed (Said.burst t) = 0
-handed (Said.response start len n) = 0
+handed (Said.response start len o n) = 0
 handed (Said.told w) = 0
 
 -- "receiver (`stored`, `discarded`, `none` where nothing arrived, or the number it gave)"; 0 stands for what no DATA frame is answered
@@ -53,7 +53,7 @@ receiptOf (Said.failed f n) = Number f
 receiptOf (Said.frame n) = Number 0
 receiptOf (Said.delivered n) = Number 0
 receiptOf (Said.burst t) = Number 0
-receiptOf (Said.response start len n) = Number 0
+receiptOf (Said.response start len o n) = Number 0
 receiptOf (Said.told Word.wait) = Number 0
 receiptOf (Said.told Word.taken) = Number 0
 receiptOf (Said.told Word.retry) = Number 0

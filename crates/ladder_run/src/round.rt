@@ -35,8 +35,8 @@ fn reports(a: Answer) -> Report
         Answer::NextBurstDelivers(_) => Report::Nothing,
         Answer::Repeated => Report::Nothing,
         Answer::Response {
-            start: _,
-            len: _,
+            iu: _,
+            opened: _,
             frames: _,
         } => Report::Nothing,
     }

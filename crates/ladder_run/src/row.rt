@@ -48,8 +48,8 @@ pub(crate) fn handed(a: Answer) -> usize
         Answer::NextBurstDelivers(_) => 0,
         Answer::Repeated => 0,
         Answer::Response {
-            start: _,
-            len: _,
+            iu: _,
+            opened: _,
             frames: _,
         } => 0,
     }
@@ -76,8 +76,8 @@ fn receipt(a: Answer) -> Receipt
         Answer::NextBurstDelivers(_) => Receipt::Number(0),
         Answer::Repeated => Receipt::Number(0),
         Answer::Response {
-            start: _,
-            len: _,
+            iu: _,
+            opened: _,
             frames: _,
         } => Receipt::Number(0),
     }

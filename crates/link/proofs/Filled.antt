@@ -38,7 +38,7 @@ said-so (Said.frame m) n e = differ (cc)
 said-so Said.stored n e = differ (cc)
 said-so Said.received n e = differ (cc)
 said-so (Said.burst t) n e = differ (cc)
-said-so (Said.response start len m) n e = differ (cc)
+said-so (Said.response start len o m) n e = differ (cc)
 said-so (Said.told v) n e = differ (cc)
 
 none-told : {A : Type 0} (q : Report) → q ≡ Report.none → (n : ℕ) → q ≡ Report.delivered n → A

@@ -36,7 +36,7 @@ module _ {P : Ports} (S : Setting) (M : Simulates P (S .tptt)) (w : World P) (d 
   stays r Said.stored = refl
   stays r Said.received = refl
   stays r (Said.burst t) = refl
-  stays r (Said.response start len n) = refl
+  stays r (Said.response start len o n) = refl
   stays r (Said.told v) = refl
 
   -- another state of the sending port that stands for s, or for s ended

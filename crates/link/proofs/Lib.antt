@@ -27,3 +27,4 @@ pub mod WorkedFaults
 pub mod WorkedWrite
 pub mod WorkedCrossing
 pub mod WorkedRepeat
+pub mod WorkedResponse

@@ -25,7 +25,7 @@ refused-quiet (Said.delivered n) q e = absurd (false≢true e)
 refused-quiet Said.stored q e = refl
 refused-quiet Said.received q e = refl
 refused-quiet (Said.burst t) q e = refl
-refused-quiet (Said.response start len n) q e = refl
+refused-quiet (Said.response start len o n) q e = refl
 refused-quiet (Said.told v) q e = refl
 
 module _ {P : Ports} (T : Steady P) (w : World P) where

@@ -38,7 +38,7 @@ module _ (f g : List ℕ) (s : SameButTlr f g) where
       go : (n : ℕ) (k : Kind) (a : Arrived) → take (a .len) (drop (a .start) f) ≡ take (a .len) (drop (a .start) g) → reading.takenOf k r a f m ≡ reading.takenOf k r (arrived≔ n a) g m
       go n Kind.Data a p = refl
       go n Kind.XferRdy a p = ap (reading.notExpectedOf r) p
-      go n Kind.Response a p = refl
+      go n Kind.Response a p = ap (reading.responseOf r (a .start) (a .len)) p
       go n Kind.Other a p = refl
 
   takes : (w : Writer) → writing.writeArrivalOf w f ≡ writing.writeArrivalOf w g
@@ -48,7 +48,7 @@ module _ (f g : List ℕ) (s : SameButTlr f g) where
       go : (n : ℕ) (k : Kind) (a : Arrived) → take (a .len) (drop (a .start) f) ≡ take (a .len) (drop (a .start) g) → writing.takenOf k w a f ≡ writing.takenOf k w (arrived≔ n a) g
       go n Kind.Data a p = refl
       go n Kind.XferRdy a p = xfer-rdy-alike w (a .header) _ n ∙ ap (writing.xferRdyTaken w (tlr≔ n (a .header))) p
-      go n Kind.Response a p = refl
+      go n Kind.Response a p = ap (writing.responseOf w (a .start) (a .len)) p
       go n Kind.Other a p = refl
 
   fills : (x : Target) (m : ℕ) → filling.writeArrivalOf x f m ≡ filling.writeArrivalOf x g m

@@ -17,6 +17,7 @@ use Rattle.sender.specs.Answer.{retryOf, advanceOf, settleOf, answersOf}
 use Rattle.receiver.specs.Record as receiver
 use Rattle.receiver.specs.DataFrame.{misplaced, outOfStep, verdictOf, arrivalOf}
 use Rattle.receiver.specs.DataFrame as data-frame
+use Rattle.frame.specs.Response.{responseFits, senseFits, byKind, responseIuOf}
 use Rattle.initiator.specs.Read.{readHoldsOf, readLentOf, notExpectedOf, responseOf, readArrivalOf}
 use Rattle.target.specs.Read as target-read
 use Rattle.link.specs.Tally.{cutFault, timeoutFault}
@@ -52,7 +53,7 @@ worked {P} {b} {start} {es} s a re rc fa co ha cl =
 
 -- all that a read computes with
 unfoldable pub computed : Unit {0}
-unfolding pick entryOf answerableOf granted limits limitsHold flagByte flagsOf headerBytes dataBytes encode over placed headerIn decode kindOf screenOf acceptOf tests holdsOf lentOf waitsOf dataHeader frameOf sentOf hands nextOf retryOf advanceOf settleOf answersOf receiver.tests receiver.holdsOf data-frame.lentOf misplaced outOfStep verdictOf arrivalOf readHoldsOf readLentOf notExpectedOf responseOf readArrivalOf target-read.readHoldsOf target-read.readArrivalOf cutFault timeoutFault tenStart tenTransfer tenLate sixStart sixTransfer sixLate
+unfolding pick entryOf answerableOf granted limits limitsHold flagByte flagsOf headerBytes dataBytes encode over placed headerIn decode kindOf screenOf acceptOf tests holdsOf lentOf waitsOf dataHeader frameOf sentOf hands nextOf retryOf advanceOf settleOf answersOf receiver.tests receiver.holdsOf data-frame.lentOf misplaced outOfStep verdictOf arrivalOf readHoldsOf readLentOf notExpectedOf responseFits senseFits byKind responseIuOf responseOf readArrivalOf target-read.readHoldsOf target-read.readArrivalOf cutFault timeoutFault tenStart tenTransfer tenLate sixStart sixTransfer sixLate
 computed = tt
 
 ten-starts : Starts readPorts (burst 10 5) tenStart

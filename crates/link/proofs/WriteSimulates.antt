@@ -200,7 +200,7 @@ unhanded (Said.delivered n) e f out = refl
 unhanded Said.stored e f out = refl
 unhanded Said.received e f out = refl
 unhanded (Said.burst t) e f out = refl
-unhanded (Said.response start len n) e f out = refl
+unhanded (Said.response start len o n) e f out = refl
 unhanded (Said.told v) e f out = refl
 
 target-refused : (c : TargetCall) (y : Target) (b : List ℕ) → refuses (targetCall c y b .says) ≡ true → (targetCall c y b .left ≡ y) × (targetCall c y b .lent ≡ b)

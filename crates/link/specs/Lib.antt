@@ -12,3 +12,4 @@ pub mod WorkedFaults
 pub mod WorkedWrite
 pub mod WorkedCrossing
 pub mod WorkedRepeat
+pub mod WorkedResponse

@@ -24,7 +24,7 @@ frameIn (Said.delivered n) out = []
 frameIn Said.stored out = []
 frameIn Said.received out = []
 frameIn (Said.burst t) out = []
-frameIn (Said.response start len n) out = []
+frameIn (Said.response start len o n) out = []
 frameIn (Said.told w) out = []
 
 -- what a port is told without a buffer

@@ -5,6 +5,7 @@ use mathlib.Core.Bool.{true, false}
 use mathlib.Core.Path.{_≡_}
 use lib.ListN.{length, getD, replicate}
 use Rattle.status.specs.Answer.{Said}
+use Rattle.status.specs.declared.answer.Opened.{Opened}
 use Rattle.transfer.specs.declared.Transfer.{Transfer}
 use Rattle.frame.specs.Format.{field}
 use Rattle.sender.specs.Record as sender
@@ -62,12 +63,15 @@ foreign =
     0x00 ∷ 0x13 ∷ 0x00 ∷ 0x00 ∷ 0x00 ∷ 0x00 ∷ 0x00 ∷ 0x00 ∷
     0x77 ∷ 0x77 ∷ 0x77 ∷ 0x77 ∷ []
 
--- the target's RESPONSE: 48 bytes, so an IU of 24
+-- the target's RESPONSE: 48 bytes, so an IU of 24: no data below other bits of byte 10, BUSY (08h), and lengths that kind 0 does not look at
 abbrev pub response : List ℕ
 response =
     0x07 ∷ 0x12 ∷ 0x34 ∷ 0x56 ∷ 0x00 ∷ 0xab ∷ 0xcd ∷ 0xef ∷
     0x00 ∷ 0x00 ∷ 0x00 ∷ 0x00 ∷ 0x00 ∷ 0x00 ∷ 0x00 ∷ 0x00 ∷
-    0x00 ∷ 0x12 ∷ 0x00 ∷ 0x00 ∷ 0x00 ∷ 0x00 ∷ 0x00 ∷ 0x00 ∷ replicate 24 0x55
+    0x00 ∷ 0x12 ∷ 0x00 ∷ 0x00 ∷ 0x00 ∷ 0x00 ∷ 0x00 ∷ 0x00 ∷ (replicate 10 0x55 ++ 0x54 ∷ 0x08 ∷ replicate 12 0x55)
+
+abbrev pub busy : Opened
+busy = record { kind = 0; status = 8; sense = 0 }
 
 -- Ten bytes, so three frames: at 0, at 4 and at 8. Window 3, retry limit 5.
 abbrev pub ten : List ℕ
@@ -179,7 +183,7 @@ SixFailed = Worked (burst 6 1) sixStart sixEvents (Report.failed 29 3) sixLeft 2
 -- what the receiving port answers to the first of its late calls, which ends it
 pub record Late : Type 0 where
   -- the IU stands at 24 and has 24 bytes; a receiving port hands out no frame
-  pub ends : readerCall (ReaderCall.bytes response) (run tenStart tenTransfer .receiving) ten .says ≡ Said.response 24 24 0
+  pub ends : readerCall (ReaderCall.bytes response) (run tenStart tenTransfer .receiving) ten .says ≡ Said.response 24 24 busy 0
   pub loses : readerCall ReaderCall.loss (run sixStart sixTransfer .receiving) sixLeft .says ≡ Said.failed 31 0
   pub ended-ten : run tenStart tenEvents .receiving .ended ≡ true
   pub ended-six : run sixStart sixEvents .receiving .ended ≡ true

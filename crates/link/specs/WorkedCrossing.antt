@@ -14,7 +14,7 @@ use Rattle.target.specs.Record as target
 use Rattle.target.specs.declared.types.Target.{Target}
 use Rattle.link.specs.Ports.{Called, lending, frameIn, Signal}
 use Rattle.link.specs.Writing.{TargetCall, writePorts}
-use Rattle.link.specs.Worked.{space, response, ten}
+use Rattle.link.specs.Worked.{space, response, busy, ten}
 use Rattle.link.specs.WorkedWrite.{host, device, ready, xferRdy, dataFrame, writer, sentFirst}
 
 -- a list of calls at a port: the record it leaves, its answers, the frames it hands out
@@ -100,9 +100,9 @@ pub record Crossing : Type 0 where
   pub again-pending : writeArrivalOf (crossed 2 1) (xferRdy 6 2 5) ≡ (crossed 2 2 saying Said.burst Taking.repeats)
   pub not-again : writeArrivalOf opened (xferRdy 4 1 0) .says ≡ Said.failed 26 1
   -- a RESPONSE tells the frames of the burst in service: burst 1's while burst 2 is pending, then those of burst 2
-  pub ends-first : writeArrivalOf resentBoth response .says ≡ Said.response 24 24 4
-  pub ends-pending : writeArrivalOf (crossed 2 1) response .says ≡ Said.response 24 24 4
-  pub ends-second : writeArrivalOf (started 1) response .says ≡ Said.response 24 24 0
+  pub ends-first : writeArrivalOf resentBoth response .says ≡ Said.response 24 24 busy 4
+  pub ends-pending : writeArrivalOf (crossed 2 1) response .says ≡ Said.response 24 24 busy 4
+  pub ends-second : writeArrivalOf (started 1) response .says ≡ Said.response 24 24 busy 0
 
 -- at the target: an XFER_RDY asked for, an answer to it, an arrival
 abbrev pub issues : Target → Called Target

@@ -23,7 +23,7 @@ use Rattle.link.specs.World.{World, Report, Event, ask, arrives, damaged
 use Rattle.link.specs.Delivers.{Burst, fresh}
 use Rattle.link.specs.Claim.{xferRdySent}
 use Rattle.link.specs.Writing.{TargetCall, writePorts}
-use Rattle.link.specs.Worked.{Worked, space, foreign, response, ten}
+use Rattle.link.specs.Worked.{Worked, space, foreign, response, busy, ten}
 
 -- a write of ten bytes in bursts of five, four per frame, so two frames each; window 2, retry limit 3: the initiator's transfer record and the target's
 abbrev pub writing : ℕ → ℕ → Transfer
@@ -195,7 +195,7 @@ pub record Command : Type 1 where
   pub seven : taking.writeArrivalOf (secondStart .receiving) foreign 10 .says ≡ Said.refused 7
   pub one : send.nextOf (secondStart .sending) (replicate 9 0) space .says ≡ Said.refused 1
   -- the late calls: the RESPONSE's IU of 24 bytes stands at 24, after 8 frames; 31
-  pub ends : writeArrivalOf (run secondStart secondTransfer .sending) response .says ≡ Said.response 24 24 8
+  pub ends : writeArrivalOf (run secondStart secondTransfer .sending) response .says ≡ Said.response 24 24 busy 8
   pub loses : lossOf (run secondStart secondTransfer .receiving) .says ≡ Said.failed 31 0
   -- both records have ended with them
   pub ended-host : run secondStart secondEvents .sending .sender .ended ≡ true

@@ -30,7 +30,7 @@ noted (Said.frame n) q = q
 noted Said.stored q = q
 noted Said.received q = q
 noted (Said.burst t) q = q
-noted (Said.response start len n) q = q
+noted (Said.response start len o n) q = q
 noted (Said.told w) q = q
 
 pub record World (P : Ports) : Type 0 where
@@ -114,7 +114,7 @@ module _ {P : Ports} where
   joins Said.stored w out = w
   joins Said.received w out = w
   joins (Said.burst t) w out = w
-  joins (Said.response start len n) w out = w
+  joins (Said.response start len o n) w out = w
   joins (Said.told v) w out = w
 
   abbrev pub asks : World P → Called (P .Sending) → World P

@@ -37,7 +37,7 @@ storing-none (Said.delivered n) e offset iu d = refl
 storing-none Said.stored e offset iu d = absurd (false≢true (sym e))
 storing-none Said.received e offset iu d = absurd (false≢true (sym e))
 storing-none (Said.burst t) e offset iu d = refl
-storing-none (Said.response start len n) e offset iu d = refl
+storing-none (Said.response start len o n) e offset iu d = refl
 storing-none (Said.told w) e offset iu d = refl
 
 -- the buffer keeps its length

@@ -73,5 +73,5 @@ storing (Said.failed n k) offset iu buffer = buffer
 storing (Said.frame n) offset iu buffer = buffer
 storing (Said.delivered n) offset iu buffer = buffer
 storing (Said.burst t) offset iu buffer = buffer
-storing (Said.response start len n) offset iu buffer = buffer
+storing (Said.response start len o n) offset iu buffer = buffer
 storing (Said.told w) offset iu buffer = buffer

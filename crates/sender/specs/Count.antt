@@ -15,7 +15,7 @@ history (Said.delivered n) f h = h
 history Said.stored f h = h
 history Said.received f h = h
 history (Said.burst t) f h = h
-history (Said.response start len n) f h = h
+history (Said.response start len o n) f h = h
 history (Said.told w) f h = h
 
 -- a count in the answer is k
@@ -28,7 +28,7 @@ abbrev pub Tells : Said → ℕ → Type 0
 Tells (Said.delivered n) k = n ≡ k
 Tells (Said.failed x n) k = n ≡ k
 Tells (Said.burst t) k = TellsBurst t k
-Tells (Said.response start len n) k = n ≡ k
+Tells (Said.response start len o n) k = n ≡ k
 Tells (Said.frame n) k = Unit {0}
 Tells (Said.refused n) k = Unit {0}
 Tells Said.stored k = Unit {0}

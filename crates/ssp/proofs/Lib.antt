@@ -7,3 +7,4 @@ pub mod LentEvent
 pub mod LentBytes
 pub mod LentOut
 pub mod LentTransferLen
+pub mod SenseTold

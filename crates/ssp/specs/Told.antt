@@ -3,6 +3,7 @@ use Prim.Native.Nat.{ℕ}
 use mathlib.Core.Path.{_≡_}
 use Rattle.status.specs.Answer.{Word, Taking, Said, Left}
 use Rattle.status.specs.Outcome.{Outcome}
+use Rattle.status.specs.declared.answer.Opened.{Opened}
 use Rattle.ssp.specs.declared.types.Told.{Told}
 
 -- `what`; READY: a set-up was taken; PARSED: a frame or an IU was read
@@ -61,7 +62,11 @@ abbrev pub PARSED : ℕ
 PARSED = 17
 
 abbrev pub tells : ℕ → ℕ → ℕ → ℕ → ℕ → Told
-tells n w f s l = record { number = n; what = w; frames = f; start = s; len = l }
+tells n w f s l = record { number = n; what = w; kind = 0; status = 0; frames = f; start = s; len = l; sense = 0 }
+
+-- a RESPONSE's IU: where it stands, and what it says
+abbrev pub opens : ℕ → ℕ → ℕ → ℕ → Opened → Told
+opens w f s l o = record { number = 0; what = w; kind = o .kind; status = o .status; frames = f; start = s; len = l; sense = o .sense }
 
 -- a case that names no value
 abbrev pub word : ℕ → Told
@@ -84,7 +89,7 @@ toldBy Said.received = word RECEIVED
 toldBy (Said.burst Taking.next) = word NEXT-BURST
 toldBy (Said.burst (Taking.delivers k)) = tells 0 NEXT-BURST-DELIVERS k 0 0
 toldBy (Said.burst Taking.repeats) = word REPEATED
-toldBy (Said.response start len k) = tells 0 RESPONSE k start len
+toldBy (Said.response start len o k) = opens RESPONSE k start len o
 
 -- a call that leaves and says y, in place: the record left, and what C is told
 abbrev pub Leaves : {X : Type 0} → Left X → X → Told → Type 0

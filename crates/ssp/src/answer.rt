@@ -1,9 +1,11 @@
 // The answers of all ports as C sees them.
 ghost use mathlib.Core.Path.{_≡_};
 ghost use Rattle.status.specs.Answer.{says};
-ghost use Rattle.ssp.specs.Told.{tells, word, toldBy};
+ghost use Rattle.ssp.specs.Told.{tells, opens, word, toldBy};
 use crate::types::Told;
 use status::Answer;
+use status::Opened;
+use status::Part;
 
 pub(crate) fn tell(number: u8, what: u8, frames: u64, start: usize, len: usize) -> Told
     ensures { λ r. ⌜ r ≡ tells number what frames start len ⌝ }
@@ -11,9 +13,28 @@ pub(crate) fn tell(number: u8, what: u8, frames: u64, start: usize, len: usize) 
     Told {
         number: number,
         what: what,
+        kind: 0,
+        status: 0,
         frames: frames,
         start: start,
         len: len,
+        sense: 0,
+    }
+}
+
+// A RESPONSE's IU: where it stands, and what it says.
+pub(crate) fn tell_opened(what: u8, frames: u64, iu: Part, o: Opened) -> Told
+    ensures { λ r. ⌜ r ≡ opens what frames (iu .start) (iu .len) o ⌝ }
+{
+    Told {
+        number: 0,
+        what: what,
+        kind: o.kind,
+        status: o.status,
+        frames: frames,
+        start: iu.start,
+        len: iu.len,
+        sense: o.sense,
     }
 }
 
@@ -37,7 +58,7 @@ pub(crate) fn told(a: Answer) -> Told
         Answer::NextBurst => tell(0, Told::NEXT_BURST, 0, 0, 0),
         Answer::NextBurstDelivers(frames) => tell(0, Told::NEXT_BURST_DELIVERS, frames, 0, 0),
         Answer::Repeated => tell(0, Told::REPEATED, 0, 0, 0),
-        Answer::Response { start, len, frames } => tell(0, Told::RESPONSE, frames, start, len),
+        Answer::Response { iu, opened, frames } => tell_opened(Told::RESPONSE, frames, iu, opened),
     }
 }
 

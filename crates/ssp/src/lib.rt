@@ -5,6 +5,7 @@ mod frames;
 mod read_receive;
 mod read_send;
 mod response_send;
+mod sense;
 mod types;
 mod write_receive;
 mod write_send;

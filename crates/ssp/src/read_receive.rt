@@ -71,7 +71,7 @@ fn arrival(s: Receiver, bytes: &[u8], buffer: &mut [u8]) -> ReceiverTold
     told(initiator::read_frame_received(s, bytes, buffer))
 }
 
-// 1, 2, 5, 6, 7, 8; DATA discarded, 20, 21, 22, stored or received; XFER_RDY 23, 24, 27; RESPONSE 32, else where its IU stands.
+// 1, 2, 5, 6, 7, 8; DATA discarded, 20, 21, 22, stored or received; XFER_RDY 23, 24, 27; RESPONSE 32, 34, else what its IU says and where it stands.
 #[no_mangle]
 pub extern "C" fn ssp_read_receive_frame(s: &mut Receiver, bytes: &[u8], buffer: &mut [u8]) -> Told
     ensures { λ r. ⌜ Leaves (readArrivalOf (now (s .entry)) (now (bytes .entry)) (length (now (buffer .entry)))) (now (s .exit)) r × (now (buffer .exit) ≡ storing (readArrivalOf (now (s .entry)) (now (bytes .entry)) (length (now (buffer .entry))) .says) (headerIn (now (bytes .entry)) .offset) (iuOf (now (bytes .entry))) (now (buffer .entry))) ⌝ }

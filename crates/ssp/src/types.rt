@@ -12,18 +12,23 @@ pub struct Told {
     pub number: u8,
     // one of those below
     pub what: u8,
+    // of a RESPONSE: DATAPRES and the status
+    pub kind: u8,
+    pub status: u8,
     // DATA frames handed out
     pub frames: u64,
     // where an IU stands in the bytes that were lent
     pub start: usize,
     pub len: usize,
+    // of a RESPONSE: bytes of sense data
+    pub sense: usize,
 }
 
 impl Told {
     // 1 to 8: nothing changed
     pub const REFUSED: u8 = 0;
 
-    // 20 to 32: the port has ended; frames
+    // 20 to 32, 34: the port has ended; frames
     pub const FAILED: u8 = 1;
 
     pub const WAIT: u8 = 2;
@@ -55,13 +60,13 @@ impl Told {
 
     pub const REPEATED: u8 = 14;
 
-    // start, len, frames
+    // start, len, kind, status, sense, frames
     pub const RESPONSE: u8 = 15;
 
     // a set-up was taken
     pub const READY: u8 = 16;
 
-    // a frame or an IU was read; start, len
+    // a frame or an IU was read; start, len; of a RESPONSE's IU also kind, status, sense
     pub const PARSED: u8 = 17;
 }
 

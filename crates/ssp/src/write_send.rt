@@ -151,7 +151,7 @@ fn arrival(s: Writer, bytes: &[u8]) -> WriterTold
     told(initiator::write_frame_received(s, bytes))
 }
 
-// 1, 2, 5, 6, 7, 8; XFER_RDY 23, 24, 27, 26, 25, else which burst it is for; RESPONSE 32, else where its IU stands.
+// 1, 2, 5, 6, 7, 8; XFER_RDY 23, 24, 27, 26, 25, else which burst it is for; RESPONSE 32, 34, else what its IU says and where it stands.
 #[no_mangle]
 pub extern "C" fn ssp_write_send_frame(s: &mut Writer, bytes: &[u8]) -> Told
     ensures { λ r. ⌜ Leaves (writeArrivalOf (now (s .entry)) (now (bytes .entry))) (now (s .exit)) r ⌝ }

@@ -30,7 +30,7 @@ AfterWord Word.discarded x y = Unit {0}
 abbrev pub After : {X : Type 0} → (X → Type 0) → Said → X → X → Type 0
 After End (Said.refused n) x y = y ≡ x
 After End (Said.failed n k) x y = End y
-After End (Said.response start len n) x y = End y
+After End (Said.response start len o n) x y = End y
 After End (Said.told w) x y = AfterWord w x y
 After End (Said.frame n) x y = Unit {0}
 After End (Said.delivered n) x y = Unit {0}
@@ -61,7 +61,7 @@ module _ {X : Type 0} (End : X → Type 0) (x : X) where
       go : (a : Said) → After End a x (r .left) → refuses a ≡ true → r .left ≡ x
       go (Said.refused n) l e = l
       go (Said.failed n k) l e = absurd (false≢true e)
-      go (Said.response start len n) l e = absurd (false≢true e)
+      go (Said.response start len o n) l e = absurd (false≢true e)
       go (Said.told w) l e = absurd (false≢true e)
       go (Said.frame n) l e = absurd (false≢true e)
       go (Said.delivered n) l e = absurd (false≢true e)
@@ -73,7 +73,7 @@ module _ {X : Type 0} (End : X → Type 0) (x : X) where
 pub refused-stores : (a : Said) → refuses a ≡ true → stores a ≡ false
 refused-stores (Said.refused n) e = refl
 refused-stores (Said.failed n k) e = refl
-refused-stores (Said.response start len n) e = refl
+refused-stores (Said.response start len o n) e = refl
 refused-stores (Said.told w) e = refl
 refused-stores (Said.frame n) e = refl
 refused-stores (Said.delivered n) e = refl

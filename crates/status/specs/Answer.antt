@@ -4,6 +4,7 @@ use mathlib.Core.Bool.{Bool, true, false}
 use Rattle.status.specs.Number.{refusalNumber, failureNumber}
 use Rattle.status.specs.declared.entry.Entry.{Entry}
 use Rattle.status.specs.declared.entry.Entry.the-variants.{Open, Closed}
+use Rattle.status.specs.declared.answer.Opened.{Opened}
 use Rattle.status.specs.declared.answer.Answer.{Answer}
 use Rattle.status.specs.declared.answer.Answer.the-variants.{Refused, Failed, Wait, Frame, Taken, Retry, Unchanged, Delivered, Acknowledged, Discarded, Stored, Received, NextBurst, NextBurstDelivers, Repeated, Response}
 
@@ -29,7 +30,7 @@ pub data Taking : Type 0 where
 pub data Said : Type 0 where
   -- refused with that number, 1 to 8
   refused : ℕ → Said
-  -- failed with that number, 20 to 32; the DATA frames that the port handed out, 0 at one that hands out none
+  -- failed with that number, 20 to 32 or 34; the DATA frames that the port handed out, 0 at one that hands out none
   failed : ℕ → ℕ → Said
   -- a frame of that many bytes was handed out
   frame : ℕ → Said
@@ -39,8 +40,8 @@ pub data Said : Type 0 where
   stored received : Said
   -- an XFER_RDY was taken
   burst : Taking → Said
-  -- the command has ended; where the RESPONSE's IU stands in the frame, its start and length; the frames of the burst in service
-  response : ℕ → ℕ → ℕ → Said
+  -- the command has ended; where the RESPONSE's IU stands in the frame, its start and length; what it says (request K9); the frames of the burst in service
+  response : ℕ → ℕ → Opened → ℕ → Said
   told : Word → Said
 
 -- each answer's number and values
@@ -60,7 +61,7 @@ says Received = received
 says NextBurst = burst next
 says (NextBurstDelivers n) = burst (delivers n)
 says Repeated = burst repeats
-says (Response start len n) = response start len n
+says (Response iu o n) = response (iu .start) (iu .len) o n
 
 -- the paper's number, 0 where it has none
 abbrev pub number : Said → ℕ
@@ -71,7 +72,7 @@ number (delivered n) = 0
 number stored = 0
 number received = 0
 number (burst t) = 0
-number (response start len n) = 0
+number (response start len o n) = 0
 number (told w) = 0
 
 abbrev pub stores : Said → Bool
@@ -82,7 +83,7 @@ stores (delivered n) = false
 stores stored = true
 stores received = true
 stores (burst t) = false
-stores (response start len n) = false
+stores (response start len o n) = false
 stores (told w) = false
 
 abbrev pub refuses : Said → Bool
@@ -93,7 +94,7 @@ refuses (delivered n) = false
 refuses stored = false
 refuses received = false
 refuses (burst t) = false
-refuses (response start len n) = false
+refuses (response start len o n) = false
 refuses (told w) = false
 
 -- what a call leaves of the record that it met, and what it answers

@@ -4,10 +4,25 @@ ghost use Rattle.status.specs.Answer.{says, number, stores, refuses};
 use crate::words::Failure;
 use crate::words::Refusal;
 
+// A part of the bytes that were lent: len bytes from start.
+pub struct Part {
+    pub start: usize,
+    pub len: usize,
+}
+
+// What a RESPONSE's IU says (request K9).
+pub struct Opened {
+    // DATAPRES: 0 no data, 1 response data, 2 sense data
+    pub kind: u8,
+    pub status: u8,
+    // bytes of sense data, from byte 24 of the IU; 0 of kinds 0 and 1
+    pub sense: usize,
+}
+
 pub enum Answer {
     // 1 to 8: nothing changed
     Refused(Refusal),
-    // 20 to 32: the port has ended; with the DATA frames that it handed out, 0 at a port that hands out none
+    // 20 to 32, 34: the port has ended; with the DATA frames that it handed out, 0 at a port that hands out none
     Failed(Failure, u64),
     // no frame is due
     Wait,
@@ -33,10 +48,10 @@ pub enum Answer {
     NextBurstDelivers(u64),
     // an XFER_RDY that repeats the burst taken last was taken
     Repeated,
-    // The command has ended; the RESPONSE's IU is len bytes of the frame from start. With the frames of the burst in service.
+    // The command has ended; where the RESPONSE's IU stands in the frame, and what it says. With the frames of the burst in service.
     Response {
-        start: usize,
-        len: usize,
+        iu: Part,
+        opened: Opened,
         frames: u64,
     },
 }
@@ -63,8 +78,8 @@ impl Answer {
             Answer::NextBurstDelivers(_) => 0,
             Answer::Repeated => 0,
             Answer::Response {
-                start: _,
-                len: _,
+                iu: _,
+                opened: _,
                 frames: _,
             } => 0,
         }
@@ -91,8 +106,8 @@ impl Answer {
             Answer::NextBurstDelivers(_) => false,
             Answer::Repeated => false,
             Answer::Response {
-                start: _,
-                len: _,
+                iu: _,
+                opened: _,
                 frames: _,
             } => false,
         }
@@ -119,8 +134,8 @@ impl Answer {
             Answer::NextBurstDelivers(_) => false,
             Answer::Repeated => false,
             Answer::Response {
-                start: _,
-                len: _,
+                iu: _,
+                opened: _,
                 frames: _,
             } => false,
         }

@@ -1,9 +1,11 @@
-// The words of the paper ("Trade words"): eight refusals and thirteen failures, each with its number; and what a call answers.
+// The words of the paper ("Trade words"): eight refusals and fourteen failures, each with its number; and what a call answers.
 mod answer;
 mod entry;
 mod words;
 
 pub use answer::Answer;
+pub use answer::Opened;
+pub use answer::Part;
 pub use entry::Entry;
 pub use entry::admit;
 pub use entry::answerable;

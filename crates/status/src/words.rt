@@ -29,6 +29,7 @@ pub enum Failure {
     ConnectionLost,
     NexusLoss,
     ResponseTooShort,
+    ResponseDataWrong,
 }
 
 impl Refusal {
@@ -50,7 +51,7 @@ impl Refusal {
 }
 
 impl Failure {
-    // 20 to 32.
+    // 20 to 32, and 34.
     pub fn number(self) -> u8
         ensures { λ r. ⌜ r ≡ failureNumber self ⌝ }
     {
@@ -68,6 +69,7 @@ impl Failure {
             Failure::ConnectionLost => 30,
             Failure::NexusLoss => 31,
             Failure::ResponseTooShort => 32,
+            Failure::ResponseDataWrong => 34,
         }
     }
 }

@@ -1,5 +1,19 @@
 //! The library's functions, as its C header declares them.
 use crate::records::*;
+use std::mem::{offset_of, size_of};
+
+/// A part of a buffer that was lent: `len` bytes from `at`.
+#[repr(C)]
+#[derive(Clone, Copy, Debug)]
+pub struct Part {
+    pub at: *const u8,
+    pub len: usize,
+}
+
+// The answer as the end of the header lays it out: K9 gave it three fields more.
+const _: () = assert!(size_of::<Answer>() == 40 && offset_of!(Answer, kind) == 2 && offset_of!(Answer, status) == 3);
+const _: () = assert!(offset_of!(Answer, frames) == 8 && offset_of!(Answer, len) == 24 && offset_of!(Answer, sense) == 32);
+const _: () = assert!(size_of::<Part>() == 16 && offset_of!(Part, len) == 8);
 
 #[rustfmt::skip]
 extern "C" {
@@ -48,4 +62,6 @@ extern "C" {
     pub fn ssp_frame_read(h: *mut Header, bytes: *const u8, bytes_len: usize) -> Answer;
     pub fn ssp_xfer_rdy_write(x: XferRdy, out: *mut u8, out_len: usize) -> Answer;
     pub fn ssp_xfer_rdy_read(x: *mut XferRdy, iu: *const u8, iu_len: usize) -> Answer;
+    pub fn ssp_response_iu_read(iu: *const u8, iu_len: usize) -> Answer;
+    pub fn ssp_sense_data(part: *mut Part, answer: Answer, bytes: *const u8, bytes_len: usize) -> usize;
 }

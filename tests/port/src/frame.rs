@@ -1,4 +1,4 @@
-//! The frame and the IU of an XFER_RDY: reader and writer.
+//! The frame and the IU of an XFER_RDY: reader and writer; the IU of a RESPONSE: reader.
 use crate::records::*;
 
 pub const DATA: u8 = 0x01;
@@ -128,6 +128,37 @@ pub fn xfer_rdy_read(xfer_rdy: &mut XferRdy, iu: &[u8]) -> Answer {
     }
     *xfer_rdy = XferRdy { offset: number(&iu[..4]), len: number(&iu[4..8]) };
     Answer { what: PARSED, len: 12, ..Answer::default() }
+}
+
+/// K9: the IU of a RESPONSE, without its fill. 32, 34, or kind, status and how many bytes of sense data.
+pub fn response_read(iu: &[u8]) -> Answer {
+    if iu.len() < 24 {
+        return Answer::failed(32, 0);
+    }
+    let kind = iu[10] & 3;
+    let [sense, response] = [number(&iu[16..20]), number(&iu[20..24])];
+    // The length of the other list is not looked at, so that with no data neither is.
+    let list = match kind {
+        NO_DATA => 0,
+        RESPONSE_DATA if response == 4 => 4,
+        SENSE_DATA if (1..=1000).contains(&sense) => sense as usize,
+        _ => return Answer::failed(34, 0),
+    };
+    if iu.len() != 24 + list {
+        return Answer::failed(34, 0);
+    }
+    let sense = if kind == SENSE_DATA { list } else { 0 };
+    Answer { what: PARSED, kind, status: iu[11], len: iu.len(), sense, ..Answer::default() }
+}
+
+/// K9: the sense data as a part of the bytes that `answer` is about. Lists begin at byte 24 of the IU.
+pub fn sense_data<'a>(answer: &Answer, bytes: &'a [u8]) -> &'a [u8] {
+    if ![RESPONSE, PARSED].contains(&answer.what) || answer.kind != SENSE_DATA {
+        return &[];
+    }
+    // Other bytes than those of the answer may be too short, and a made-up answer may say anything (OPEN.md).
+    let iu = bytes.get(answer.start..).and_then(|rest| rest.get(..answer.len));
+    iu.and_then(|iu| iu.get(24..)).and_then(|list| list.get(..answer.sense)).unwrap_or(&[])
 }
 
 /// 5, 6, 7, 8 of an arrival; `takes` says which types the role takes. Header and IU.

@@ -41,10 +41,13 @@ pub fn arrives(r: &mut Receiver, bytes: &[u8], data: &mut [u8]) -> Answer {
             };
             receiver::fail(r, n)
         }
-        _ if iu.len() < 24 => receiver::fail(r, 32),
         _ => {
+            let opened = frame::response_read(iu);
+            if opened.what != PARSED {
+                return receiver::fail(r, opened.number);
+            }
             r.ended = true;
-            Answer { what: RESPONSE, start: 24, len: iu.len(), ..Answer::default() }
+            Answer { what: RESPONSE, start: 24, ..opened }
         }
     }
 }

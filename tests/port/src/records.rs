@@ -5,9 +5,13 @@
 pub struct Answer {
     pub number: u8,
     pub what: u8,
+    /// K9, of a RESPONSE: DATAPRES, status, bytes of sense data.
+    pub kind: u8,
+    pub status: u8,
     pub frames: u64,
     pub start: usize,
     pub len: usize,
+    pub sense: usize,
 }
 
 pub const REFUSED: u8 = 0;
@@ -149,6 +153,10 @@ pub struct XferRdy {
     pub offset: u32,
     pub len: u32,
 }
+
+pub const NO_DATA: u8 = 0;
+pub const RESPONSE_DATA: u8 = 1;
+pub const SENSE_DATA: u8 = 2;
 
 pub const STATE_NONE: u8 = 0;
 pub const STATE_UNANSWERED: u8 = 1;

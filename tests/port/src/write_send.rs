@@ -147,10 +147,11 @@ pub fn arrives(w: &mut Writer, bytes: &[u8]) -> Answer {
         if header.kind == frame::XFER_RDY {
             return xfer_rdy(w, &header, iu);
         }
-        if iu.len() < 24 {
-            return sender::fail(&mut w.sender, 32);
+        let opened = frame::response_read(iu);
+        if opened.what != PARSED {
+            return sender::fail(&mut w.sender, opened.number);
         }
         sender::end(&mut w.sender);
-        Answer { what: RESPONSE, frames: w.sender.frames, start: 24, len: iu.len(), ..Answer::default() }
+        Answer { what: RESPONSE, frames: w.sender.frames, start: 24, ..opened }
     })
 }

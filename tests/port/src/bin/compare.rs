@@ -1,6 +1,6 @@
 //! Compares the library with the port. Arguments: first seed, runs, single calls, depth of the lists, run files.
 use port::check::pair::SEEN;
-use port::check::{ladders, resent, single, steps, tlr, tree, vectors, world};
+use port::check::{ladders, opened, resent, single, steps, tlr, tree, vectors, world};
 use std::sync::atomic::Ordering::Relaxed;
 use std::time::Instant;
 
@@ -61,6 +61,7 @@ fn main() {
     alike &= part("writer in two steps", &mut sum, steps::all);
     alike &= part("TLR CONTROL", &mut sum, tlr::all);
     alike &= part("resent XFER_RDY", &mut sum, resent::all);
+    alike &= part("opening the RESPONSE", &mut sum, opened::all);
     alike &= part("single calls", &mut sum, || single::all(first, singles));
     alike &= part("lists of events", &mut sum, || tree::each(depth as usize));
     alike &= part("longer lists", &mut sum, || tree::longer(depth as usize));

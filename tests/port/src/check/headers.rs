@@ -90,10 +90,10 @@ fn response() -> Result<u64, String> {
     n += s.holds(true)?;
     // 003, 9.2.4.3.5: with RETRANSMIT one and none before, it is the valid one; an extra one is discarded (01: the command has ended, 2).
     for flags in [0, 2] {
-        let f = bytes(7, 0, flags, 0, &[5; 25]);
+        let f = bytes(7, 0, flags, 0, &response_iu(5, 25));
         for mut s in [read_receiver("003 RESPONSE", 8, 1)?, writer("003 RESPONSE", 8, 1, 1)?, asked("003 RESPONSE", 8, 1, 1, 8)?] {
             let a = s.arrives(f.clone(), (RESPONSE, 0))?;
-            s.arrives(bytes(7, 0, 2, 0, &[5; 25]), (REFUSED, 2))?;
+            s.arrives(bytes(7, 0, 2, 0, &response_iu(5, 25)), (REFUSED, 2))?;
             ended(&mut s)?;
             n += s.holds((a.start, a.len) == (24, 25))?;
         }
@@ -106,7 +106,7 @@ fn response() -> Result<u64, String> {
     // 003, 9.2.4.34 without retries: a failed read ends in a RESPONSE with CHECK CONDITION; the initiator takes it though data is missing.
     let mut s = read_receiver("003 RESPONSE early", 8, 0)?;
     s.arrives(bytes(1, 0, 0, 0, &[5; 4]), (STORED, 0))?;
-    s.arrives(bytes(7, 0, 0, 0, &[5; 24]), (RESPONSE, 0))?;
+    s.arrives(bytes(7, 0, 0, 0, &response_iu(5, 24)), (RESPONSE, 0))?;
     s.arrives(bytes(1, 4, 0, 0, &[5; 4]), (REFUSED, 2))?;
     n += s.holds(s.pair.data[0] == [5, 5, 5, 5, 4, 5, 6, 7])?;
     Ok(n)
@@ -131,10 +131,10 @@ fn fields() -> Result<u64, String> {
     // 001, "Overview": target ports may set TPTT to any value in any frame; 01: ignored in read DATA and RESPONSE, the reader gives it.
     let mut s = read_receiver("001 TPTT", 4, 1)?;
     s.arrives(bytes(1, 0, 0, 0xffff, &[7; 4]), (RECEIVED, 0))?;
-    s.arrives(bytes(7, 0, 0, 0x1234, &[7; 24]), (RESPONSE, 0))?;
+    s.arrives(bytes(7, 0, 0, 0x1234, &response_iu(7, 24)), (RESPONSE, 0))?;
     n += s.holds(s.pair.data[0] == [7; 4])?;
     let mut s = asked("001 TPTT", 4, 1, 1, 4)?;
-    s.arrives(bytes(7, 0, 0, 0x1234, &[7; 24]), (RESPONSE, 0))?;
+    s.arrives(bytes(7, 0, 0, 0x1234, &response_iu(7, 24)), (RESPONSE, 0))?;
     n += s.holds(true)?;
     n += reads(&bytes(1, 4, 0, 0xfffe, &[7; 5]), header(1, 0, 0xfffe, 4), 5)?;
     // 001, 9.2.6.3.3.5.1 k), 9.2.6.3.3.7.1 i): DATA OFFSET is zero outside DATA; 01 has no test of it on arrival.
@@ -171,7 +171,7 @@ fn byte_10() -> Result<u64, String> {
         s.arrives(mark(bytes(1, 4, 0, 0, &[9; 4])), (DISCARDED, 0))?;
         s.arrives(mark(bytes(1, 4, 1, 0, &[7; 5])), (STORED, 0))?;
         s.arrives(mark(bytes(1, 9, 0, 0, &[7; 3])), (RECEIVED, 0))?;
-        let a = s.arrives(mark(bytes(7, 0, 2, 0, &[0; 26])), (RESPONSE, 0))?;
+        let a = s.arrives(mark(bytes(7, 0, 2, 0, &response_iu(0, 26))), (RESPONSE, 0))?;
         n += s.holds(s.pair.data[0] == [7; 12] && a.len == 26)?;
         let mut s = open("002 reserved, write", 12, 1, 12)?;
         s.arrives(mark(bytes(1, 8, 0, 0, &[9; 4])), (DISCARDED, 0))?;
@@ -210,7 +210,7 @@ fn byte_10() -> Result<u64, String> {
     s.arrives(bytes(1, 0, 6, 0, &[7; 4]), (STORED, 0))?;
     s.arrives(bytes(1, 0, 6, 0, &[7; 4]), (DISCARDED, 0))?;
     s.arrives(bytes(1, 4, 7, 0, &[7; 4]), (RECEIVED, 0))?;
-    s.arrives(bytes(7, 0, 5, 0, &[7; 24]), (RESPONSE, 0))?;
+    s.arrives(bytes(7, 0, 5, 0, &response_iu(7, 24)), (RESPONSE, 0))?;
     n += s.holds(true)?;
     let mut s = open("003 flags elsewhere", 8, 1, 8)?;
     s.arrives(bytes(1, 4, 6, 0, &[7; 4]), (DISCARDED, 0))?;

@@ -1,11 +1,15 @@
 //! One record at both sides; each call goes to both, and all that it may touch is compared.
+use super::opened;
 use crate::ffi::*;
 use crate::records::*;
 use crate::{read_receive, read_send, response, write_receive, write_send};
 use std::sync::atomic::{AtomicU64, Ordering::Relaxed};
 
 /// How often each record gave each answer: by record, what, number.
-pub static SEEN: [[[AtomicU64; 33]; 18]; 5] = [const { [const { [const { AtomicU64::new(0) }; 33] }; 18] }; 5];
+pub static SEEN: [[[AtomicU64; 35]; 18]; 5] = [const { [const { [const { AtomicU64::new(0) }; 35] }; 18] }; 5];
+
+/// Calls that the library has had: of records, of the RESPONSE's IU reader and for the sense data.
+pub static CALLS: AtomicU64 = AtomicU64::new(0);
 
 fn seen(rec: &Rec, a: &Answer) {
     let i = match rec {
@@ -88,6 +92,7 @@ pub fn lib(rec: &mut Rec, call: &Call, sent: &mut [u8], data: &mut [u8], out: &m
     use Call::*;
     let (b, len) = (sent.as_mut_ptr(), sent.len());
     let (d, o) = (data.as_mut_ptr(), out.as_mut_ptr());
+    CALLS.fetch_add(1, Relaxed);
     // Lengths were tested by the port's own slices of the same buffers.
     Some(unsafe {
         match (rec, call) {
@@ -151,11 +156,17 @@ impl Pair {
         let [o0, o1] = &mut self.out;
         let a = port(&mut self.rec[0], call, d0, o0);
         let bytes: &[u8] = if let Call::Frame(bytes, _) = call { bytes } else { &[] };
-        let mut sent = bytes.to_vec();
-        let b = lib(&mut self.rec[1], call, &mut sent, d1, o1);
-        let kept = sent == bytes;
-        let alike = kept && a == b && self.rec[0] == self.rec[1] && self.data[0] == self.data[1] && self.out[0] == self.out[1];
-        if alike {
+        // With others before and after them, which must stay too.
+        let mut lent = opened::Lent::new(bytes);
+        let b = lib(&mut self.rec[1], call, lent.bytes(), d1, o1);
+        // K9: after each arrival the part too, set before to all of the bytes, so that one left as it was shows.
+        let parts = match (&a, &b, call) {
+            (Some(a), Some(b), Call::Frame(..)) => [opened::port_place(a, bytes), opened::lib_place(b, lent.bytes(), 0..bytes.len())],
+            _ => [Ok(None), Ok(None)],
+        };
+        let kept = lent.kept(bytes);
+        let alike = a == b && self.rec[0] == self.rec[1] && self.data[0] == self.data[1] && self.out[0] == self.out[1];
+        if alike && kept && parts[0] == parts[1] {
             if let Some(a) = &a {
                 seen(&before, a);
             }
@@ -166,7 +177,10 @@ impl Pair {
             s += &format!("\n  port    {:?}\n  library {:?}", self.rec[0], self.rec[1]);
         }
         if !kept {
-            s += "\n  the library changed the bytes that arrived";
+            s += "\n  the library changed the bytes that arrived or some beside them";
+        }
+        if parts[0] != parts[1] {
+            s += &format!("\n  sense data: offset, length\n  port    {:?}\n  library {:?}", parts[0], parts[1]);
         }
         if self.data[0] != self.data[1] {
             s += "\n  data buffers differ";

@@ -57,7 +57,8 @@ fn records() -> Result<u64, String> {
         (FAILED, 25),
     )?;
     let due = Sender { unanswered: 0, ended: true, ..sender };
-    n += s.holds(a == Answer { number: 25, what: FAILED, frames: 1, start: 0, len: 0 } && record(&s) == Writer { sender: due, ..before })?;
+    let told = Answer { number: 25, what: FAILED, frames: 1, ..Answer::default() };
+    n += s.holds(a == told && record(&s) == Writer { sender: due, ..before })?;
     // The right one waits for the frame that is out, under the new tag.
     let mut s = first("K3 record, repeat waits", &[0])?;
     let a = s.arrives(

@@ -33,6 +33,26 @@ fn likes(g: &mut Rng, rec: &Rec) -> (u32, u16, u32) {
     }
 }
 
+/// K9: mostly an IU that is taken, of `n` bytes or, with response data, 28; else any bytes. From a generator of its own, so that the other
+/// numbers stay those of the seed.
+fn opens(own: &mut Rng, iu: &mut [u8], n: usize) -> usize {
+    let list = n.saturating_sub(24) as u32;
+    let (kind, n) = match own.below(8) {
+        0 => return n,
+        1 if n == 25 => (RESPONSE_DATA, 28),
+        _ if n > 24 => (SENSE_DATA, n),
+        _ => (NO_DATA, n),
+    };
+    iu[10] = iu[10] & 0xfc | kind;
+    let near = if own.one_in(8) { own.of(&[1, u32::MAX]) } else { 0 };
+    match kind {
+        RESPONSE_DATA => iu[20..24].copy_from_slice(&4u32.wrapping_add(near).to_be_bytes()),
+        SENSE_DATA => iu[16..20].copy_from_slice(&list.wrapping_add(near).to_be_bytes()),
+        _ => {}
+    }
+    n
+}
+
 pub fn bytes(g: &mut Rng, rec: &Rec) -> Vec<u8> {
     let t = transfer_of(rec);
     let (at, tptt, end) = likes(g, rec);
@@ -52,7 +72,10 @@ pub fn bytes(g: &mut Rng, rec: &Rec) -> Vec<u8> {
             frame::xfer_rdy_write(&XferRdy { offset, len }, &mut iu);
             if g.one_in(8) { g.of(&[0, 11, 13, 16]) } else { 12 }
         }
-        7 => g.of(&[0, 23, 24, 25, 1024]),
+        7 => {
+            let n = g.of(&[0, 23, 24, 25, 1024]);
+            opens(&mut Rng(!g.0 ^ 9), &mut iu, n)
+        }
         _ => g.of(&[0, 1, 2, 3, 4, 4, 4, 8, left as usize, left as usize, (left as usize + 1).min(1024)]),
     };
     // From a generator of its own, so that the other numbers stay those of the seed.

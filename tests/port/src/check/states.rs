@@ -331,7 +331,8 @@ pub fn all() -> Result<u64, String> {
 // - 001, 9.2.6.3.3.2, Enable First Burst, and all of first burst in 002: left to others.
 // - 001, 9.2.6.3.3.3.1, arguments for the OPEN address frame; destination, tag in messages: connections; a record is one command.
 // - 001, 9.2.6.3.3.6, 002, 1.0.0.1.3.3.1, "ACK Transmitted" for each DATA frame before more goes out: the link's.
-// - 001, 9.2.6.3.3.7.1, table 6, DATAPRES to SENSE DATA; 002, tables 2 and 3: the RESPONSE's IU is the caller's.
+// - 001, 9.2.6.3.3.7.1, table 6, DATAPRES to SENSE DATA; 002, tables 2 and 3: at the target the RESPONSE's IU is the caller's. At the
+//   initiator K9 opens it, see `opened_vectors`.
 // - 001 and 002, Initiator Response Timeout, 002, table 4, its mode page: no entry point.
 // - 002, 1.0.0.1.2, Accept_Reject OPENs, unsuccessful or not balanced frames: the link's; a damaged frame is kept from the port.
 // - 002, 1.0.0.1.2, IU, tag, TPTT and logical unit of COMMAND and TASK: their contents are left to others.

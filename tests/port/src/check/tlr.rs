@@ -4,7 +4,7 @@ use super::headers::{header as given, reads, reserved, with};
 use super::pair::Call;
 use super::states::asked;
 use super::steps::*;
-use super::vectors::{bytes, read_receiver, read_sender, ready, target};
+use super::vectors::{bytes, read_receiver, read_sender, ready, response_iu, target};
 use crate::records::*;
 use crate::{ffi, frame};
 
@@ -229,7 +229,7 @@ fn ports() -> Result<u64, String> {
     s.arrives(bytes(1, 8, 0x18, 0, &[9; 4]), (DISCARDED, 0))?;
     s.arrives(bytes(1, 4, 0x18, 0, &[9; 4]), (DISCARDED, 0))?;
     s.arrives(bytes(1, 4, 0x19, 0, &[7; 8]), (RECEIVED, 0))?;
-    s.arrives(bytes(7, 0, 0x1a, 0, &[7; 24]), (RESPONSE, 0))?;
+    s.arrives(bytes(7, 0, 0x1a, 0, &response_iu(7, 24)), (RESPONSE, 0))?;
     let mut n = s.holds(s.pair.data[0] == [7; 12])?;
     let mut s = asked("K8 write", 12, 1, 1, 4)?;
     s.frame(0, 0, 0)?;

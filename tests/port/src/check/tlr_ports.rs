@@ -65,7 +65,7 @@ fn writers() -> Result<Vec<Script>, String> {
     ])
 }
 
-fn targets() -> Result<Vec<Script>, String> {
+pub(super) fn targets() -> Result<Vec<Script>, String> {
     let mut unanswered = target("XFER_RDY out", 12, 1, 8)?;
     unanswered.frame(0, 4, 0)?;
     let mut again = target("XFER_RDY to be sent again", 12, 1, 8)?;
@@ -95,7 +95,7 @@ fn targets() -> Result<Vec<Script>, String> {
     ])
 }
 
-fn read_senders() -> Result<Vec<Script>, String> {
+pub(super) fn read_senders() -> Result<Vec<Script>, String> {
     let mut nak = read_sender("NAK pending", 12, 2, 1)?;
     sends(&mut nak, 0, &[0, 4])?;
     taken(&mut nak, &[Call::Nak])?;
@@ -117,7 +117,10 @@ fn frames() -> Vec<Vec<u8>> {
         }
     }
     all.extend([0, 11, 13, 16].map(|len| bytes(5, 0, 0, 0, &vec![0; len])));
-    all.extend([0, 23, 24, 27, 1024].map(|len| bytes(7, 0, 0, 0, &vec![0; len])));
+    all.extend([0, 23].map(|len| bytes(7, 0, 0, 0, &vec![0; len])));
+    all.extend([24, 27, 1024].map(|len| bytes(7, 0, 0, 0, &response_iu(0, len))));
+    // K9: no data, and bytes after them.
+    all.push(bytes(7, 0, 0, 0, &[0; 27]));
     let placed = [data(0, 0, 0, 4), ready(0, 8, 0, 0), bytes(7, 0, 0, 0, &[0; 24])];
     for f in placed {
         // Other types, another address, another tag; then lengths and a fill that do not fit.
@@ -244,9 +247,9 @@ pub fn all() -> Result<u64, String> {
     let ends = |numbers: &[u8]| numbers.iter().map(|n| (FAILED, *n)).collect::<Vec<_>>();
     let stores = [(DISCARDED, 0), (STORED, 0), (RECEIVED, 0)];
     let bursts = [(NEXT_BURST, 0), (NEXT_BURST_DELIVERS, 0), (REPEATED, 0), (RESPONSE, 0)];
-    let read = [&stores[..], &[(RESPONSE, 0)], &ends(&[20, 21, 22, 23, 24, 27, 32])].concat();
+    let read = [&stores[..], &[(RESPONSE, 0)], &ends(&[20, 21, 22, 23, 24, 27, 32, 34])].concat();
     let mut n = role(read_receivers()?, &refusals(&read)).map_err(|e| format!("read, initiator: {e}"))?;
-    let write = [&bursts[..], &ends(&[23, 24, 25, 26, 27, 32])].concat();
+    let write = [&bursts[..], &ends(&[23, 24, 25, 26, 27, 32, 34])].concat();
     n += role(writers()?, &refusals(&write)).map_err(|e| format!("write, initiator: {e}"))?;
     let target = [&stores[..], &ends(&[20, 21, 22])].concat();
     n += role(targets()?, &refusals(&target)).map_err(|e| format!("write, target: {e}"))?;

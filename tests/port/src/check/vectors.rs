@@ -77,6 +77,17 @@ pub fn bytes(kind: u8, offset: u32, flags: u8, tptt: u16, iu: &[u8]) -> Vec<u8> 
     f
 }
 
+/// A RESPONSE's IU that K9 takes: no data in 24 bytes, sense data in more. All else, also the reserved bits of byte 10, is `byte`.
+pub fn response_iu(byte: u8, len: usize) -> Vec<u8> {
+    let mut iu = vec![byte; len];
+    iu[10] = byte & 0xfc;
+    if len > 24 {
+        iu[10] |= SENSE_DATA;
+        iu[16..20].copy_from_slice(&(len as u32 - 24).to_be_bytes());
+    }
+    iu
+}
+
 pub fn ready(offset: u32, len: u32, flags: u8, tptt: u16) -> Vec<u8> {
     let mut iu = [0; 12];
     frame::xfer_rdy_write(&XferRdy { offset, len }, &mut iu);
@@ -232,6 +243,7 @@ pub fn all() -> Result<u64, String> {
         + super::steps::vectors()?
         + super::tlr::vectors()?
         + super::resent::vectors()?
+        + super::opened_vectors::all()?
         + super::sources::all()?
         + super::states::all()?
         + super::bursts::all()?

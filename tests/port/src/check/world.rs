@@ -75,6 +75,13 @@ pub struct World {
 const OUT: usize = 64;
 const IU: usize = 27;
 
+/// A RESPONSE's IU that K9 takes: three bytes of sense data (byte 10 is 0Ah). All but their length counts up, so that the bytes differ.
+fn response_iu() -> Vec<u8> {
+    let mut iu: Vec<u8> = (0..IU as u8).collect();
+    iu[16..20].copy_from_slice(&[0, 0, 0, 3]);
+    iu
+}
+
 impl World {
     pub fn new(t: Transfer) -> Result<World, String> {
         let other = Transfer { local: t.remote, remote: t.local, ..t };
@@ -89,7 +96,7 @@ impl World {
         let mut w = World {
             sender: Pair::new(s, bytes, room),
             receiver: Pair::new(r, vec![0; n], room),
-            responder: Pair::new(Rec::Responder(Responder::default()), (0..IU as u8).collect(), OUT),
+            responder: Pair::new(Rec::Responder(Responder::default()), response_iu(), OUT),
             data: Way::default(),
             ready: Way::default(),
             response: None,

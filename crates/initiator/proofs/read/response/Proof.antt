@@ -1,19 +1,17 @@
 use borrow.Author.Needs.{needs}
-use borrow.Author.Tests.{lt-ltb, le-ltb}
-use mathlib.Core.Path.{refl, sym, ap, _∙_}
-use native.Mathlib.Omega.{arith}
+use mathlib.Core.Path.{sym, ap, _∙_}
+use Rattle.frame.specs.Response.{responseRead}
 use Rattle.initiator.specs.Read.{responseOf}
-use Rattle.status.proofs.Choose.{choose, in-true, in-false}
 use Rattle.initiator.proofs.read.response.Statement.{statement}
 use Rattle.initiator.proofs.read.response.Tie as tie
 
 returns : tie.Need-returns
 unfolding responseOf
-returns c = in-true _ _ _ _ (lt-ltb (c .before .before .args .len) 24 (omega arith)) (c .failed .ensures)
+returns c = rw (sym (c .before .before .before .before .read-response .ensures) ∙ ap responseRead (c .before .before .why .given .1)) (c .failed .ensures)
 
 returns-2 : tie.Need-returns-2
 unfolding responseOf
-returns-2 c = in-false _ _ _ _ (le-ltb (c .before .args .len) 24 (omega arith)) refl
+returns-2 c = rw (sym (c .before .before .before .before .read-response .ensures) ∙ ap responseRead (c .before .before .o .given .1)) (c .opened .ensures)
 
 pub response-spec : {M : Type 1} → statement M
-response-spec = tie.close (tie.spec (λ c κs. search needs) returns returns-2)
+response-spec = tie.close (tie.spec (λ c κs. search needs) (λ c. search needs) (λ c κs. search needs) (λ c. search needs) (λ c κs. search needs) returns returns-2)

@@ -17,7 +17,9 @@ returns-2 c =
     rw (c .before .enum-told2 .given .1) (rw (part (a .a .start) (a .a .len) (now (a .bytes))) at (c .not-expected .ensures), not-expected-leaves _ _ _ _ _)
 
 returns-3 : tie.Need-returns-3
-returns-3 c = rw (c .before .enum-told3 .given .1) ((c .response .ensures), response-leaves _ _ _ _ _ _)
+returns-3 c =
+    let a = (c .before .before .before .before .before .before .before .before .args) in
+    rw (c .before .enum-told3 .given .1) (rw (part (a .a .start) (a .a .len) (now (a .bytes))) at (c .response .ensures), response-leaves _ _ _ _ _ _ _)
 
 returns-4 : tie.Need-returns-4
 returns-4 c = rw (c .before .enum-told4 .given .1) ((c .refused .ensures), refl)

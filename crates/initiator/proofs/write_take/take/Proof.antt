@@ -7,10 +7,12 @@ use Rattle.initiator.proofs.write_take.take.Tie as tie
 returns : tie.Need-returns
 returns c =
     let a = (c .before .before .before .before .before .before .before .args) in
-    rw (c .before .before .enum-told .given .1) (rw (part (a .a .start) (a .a .len) (now (a .bytes))) at (c .xfer-rdy .ensures))
+    rw (c .before .enum-told .given .1) (rw (part (a .a .start) (a .a .len) (now (a .bytes))) at (c .xfer-rdy .ensures))
 
 returns-2 : tie.Need-returns-2
-returns-2 c = rw (c .before .enum-told2 .given .1) (c .response .ensures)
+returns-2 c =
+    let a = (c .before .before .before .before .before .before .before .args) in
+    rw (c .before .enum-told2 .given .1) (rw (part (a .a .start) (a .a .len) (now (a .bytes))) at (c .response .ensures))
 
 returns-3 : tie.Need-returns-3
 returns-3 c = rw (c .before .enum-told3 .given .1) (c .refused .ensures)

@@ -48,7 +48,7 @@ returns-15 : tie.Need-returns-15
 returns-15 c = rw (c .before .enum-told10 .given .1) (c .tell15 .ensures)
 
 returns-16 : tie.Need-returns-16
-returns-16 c = rw (c .before .before .a6 .given .1) (c .tell16 .ensures)
+returns-16 c = rw (c .before .before .a6 .given .1) (c .tell-opened .ensures)
 
 pub told-spec : {M : Type 1} → statement M
 told-spec = tie.close (tie.spec (λ c. search needs) (λ c κs. search needs) (λ c κs. search needs) (λ c. search needs) (λ c κs. search needs) (λ c κs. search needs) (λ c. search needs) (λ c κs. search needs) (λ c. search needs) (λ c κs. search needs) (λ c. search needs) (λ c κs. search needs) (λ c. search needs) (λ c κs. search needs) (λ c. search needs) (λ c κs. search needs) (λ c. search needs) (λ c κs. search needs) (λ c. search needs) (λ c κs. search needs) (λ c. search needs) (λ c κs. search needs) (λ c. search needs) (λ c κs. search needs) (λ c. search needs) (λ c κs. search needs) (λ c. search needs) (λ c κs. search needs) (λ c. search needs) (λ c κs. search needs) (λ c. search needs) (λ c κs. search needs) (λ c. search needs) (λ c κs. search needs) returns returns-2 returns-3 returns-4 returns-5 returns-6 returns-7 returns-8 returns-9 returns-10 returns-11 returns-12 returns-13 returns-14 returns-15 returns-16)
