@@ -4,7 +4,8 @@
  * 34 that of request K9.
  *
  * Every function but ssp_sense_data answers an ssp_answer by value. A record is lent by pointer, and the call brings it forward in place. A refusal
- * (SSP_REFUSED, number 1 to 8) leaves the record and every lent byte as they were. A failure (SSP_FAILED, number 20 to 32, 34) ends the record.
+ * (SSP_REFUSED, number 1 to 8) leaves the record and every lent byte as they were. A failure (SSP_FAILED, number 20 to 32, 34) ends the record;
+ * the two readers of an IU have none to end.
  * Numbers stand below in the order in which they are tested: each is given where its condition holds and no earlier one does.
  *
  * What every function asks of its caller; nothing tests it, see README "From C":
@@ -13,8 +14,8 @@
  *   - no buffer overlaps another one of the same call, or the record;
  *   - a bool holds 0 or 1 and nothing else;
  *   - a record is used by one thread at a time, and its buffers are left alone during the call;
- *   - a record is set before it is lent, also to a set-up or a reader: all zero will do (an ssp_part: see ssp_sense_data); and so is every field of a transfer or a header that is
- *     passed by value.
+ *   - a record is set before it is lent, also to a set-up or a reader: all zero will do (an ssp_part: see ssp_sense_data); and so is every field
+ *     of a transfer, a header or an answer that is passed by value.
  *
  * What is tested at each call, and answered with 1 where it does not hold: the limits of the transfer, marks and counts of the record,
  * its direction, and the length of the data buffer, which is the byte count of the transfer.
@@ -75,7 +76,8 @@ enum ssp_what {
     SSP_NEXT_BURST = 12,          /* an XFER_RDY for the next burst was taken; there was none before, or its delivery was reported */
     SSP_NEXT_BURST_DELIVERS = 13, /* [frames] the same; with it the burst before counts as delivered */
     SSP_REPEATED = 14,            /* an XFER_RDY that repeats the burst taken last, its offset and length, was taken */
-    SSP_RESPONSE = 15,            /* [start, len, kind, status, sense_len, frames] the command has ended; the RESPONSE's IU is len bytes of the frame from start */
+    SSP_RESPONSE = 15,            /* [start, len, kind, status, sense_len, frames] the command has ended; the RESPONSE's IU is len bytes of the
+                                     frame from start */
     SSP_READY = 16,               /* a set-up was taken: the record is at its start */
     SSP_PARSED = 17               /* [start, len] a frame or an IU was read; [kind, status, sense_len] a RESPONSE's IU */
 };
@@ -92,7 +94,7 @@ enum ssp_type {
 /* ssp_answer.kind: DATAPRES of a RESPONSE's IU, byte 10, bits 1 and 0. */
 enum ssp_datapres {
     SSP_DATAPRES_NO_DATA = 0,
-    SSP_DATAPRES_RESPONSE_DATA = 1, /* four bytes of the frame from byte start + 24; look at them, whatever the status */
+    SSP_DATAPRES_RESPONSE_DATA = 1, /* four bytes from byte start + 24 of those that were lent; they say what happened, not the status */
     SSP_DATAPRES_SENSE_DATA = 2     /* ssp_sense_data gives them */
 };
 
@@ -121,7 +123,8 @@ enum ssp_limit {
     SSP_SENSE_MOST = 1000
 };
 
-/* What a call answers. A field that the case does not name is 0: so status is 0 after a failure or a refusal too, and does not mean GOOD there. */
+/* What a call answers. A field that the case does not name is 0: so status is 0 also after a failure, a refusal and ssp_frame_read, which opens
+ * nothing, and does not mean GOOD there; nor does it with kind 1. */
 typedef struct ssp_answer {
     uint8_t number;  /* the paper's number, or 0 */
     uint8_t what;    /* one of enum ssp_what */
@@ -392,18 +395,19 @@ ssp_answer ssp_xfer_rdy_write(ssp_xfer_rdy xfer_rdy, uint8_t *out, size_t out_le
 ssp_answer ssp_xfer_rdy_read(ssp_xfer_rdy *xfer_rdy, const uint8_t *iu, size_t iu_len);
 
 /* Reads a RESPONSE's IU (without its fill), any bytes. 32 (under 24 bytes), 34, else SSP_PARSED with kind, status and sense_len; start is 0
- * and len is iu_len.
+ * and len is iu_len. After ssp_frame_read the IU is len bytes from bytes + start.
  * 34: kind 3; kind 0 and not 24 bytes; kind 1, and the response length (bytes 20 to 23) is not 4 or the IU not 28 bytes; kind 2, and the
- * sense length (bytes 16 to 19) is not 1 to 1,000 or the IU is not 24 bytes plus the sense length. Kind 0 looks at neither length, kind 1 not at
- * the sense length, kind 2 not at the response length; of byte 10 the other bits are ignored. */
+ * sense length (bytes 16 to 19) is not 1 to 1,000 or the IU is not 24 bytes plus the sense length. Kind 0 looks at neither length, kind 1 not
+ * at the sense length, kind 2 not at the response length; of byte 10 the other bits are ignored. */
 ssp_answer ssp_response_iu_read(const uint8_t *iu, size_t iu_len);
 
 /* The sense data of a RESPONSE as a part of the bytes that were lent: give the answer of the call that took it, and the same bytes again.
  * That is ssp_read_receive_frame or ssp_write_send_frame with its frame, or ssp_response_iu_read with its IU. Answers the part's length.
- * Nothing is copied: the part is good while those bytes stay as they are. It is empty after every other answer, so of kinds 0 and 1 and after a
- * refusal or a failure; where it is empty, do not use at. With other bytes than those of the answer it has the same place in them, and is empty
- * where they do not reach so far.
- * Set *part before each call, to { bytes, 0 }; all zero, or a part whose bytes are gone, will not do. It may point into bytes. */
+ * Nothing is copied: the part is good while those bytes stay as they are. It is empty for kinds 0 and 1, after a refusal or a failure, and
+ * after every other call's answer; where it is empty, do not use at. With other bytes than those of the answer it has the same place in them,
+ * and is empty where they do not reach so far.
+ * Set *part before each call, to { bytes, 0 }; all zero, or a part whose bytes are gone, will not do. Before the call it may point into
+ * bytes. */
 size_t ssp_sense_data(ssp_part *part, ssp_answer answer, const uint8_t *bytes, size_t bytes_len);
 
 /* ---- The layout that the library was built with. A compiler that lays a record out otherwise stops here. ------------------------------ */

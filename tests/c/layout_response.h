@@ -1,6 +1,6 @@
 /* A RESPONSE opened (request K9): IUs with their bytes, at the IU reader and at both initiators, and the sense data as a part of the caller's
- * own bytes: part of layout.c. What each IU gives is worked out by hand from the request; the status codes and the sense data in fixed format
- * are SPC's. */
+ * own bytes: part of layout.c. What each IU gives is worked out by hand from the request; the status codes are SAM's, the sense data in
+ * fixed format SPC's, the response codes SAS's. */
 
 typedef struct iu_vector {
     const char *name;

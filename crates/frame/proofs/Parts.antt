@@ -1,14 +1,11 @@
 -- A part of lent bytes: none of them, or as many as were asked for; and references that show one.
-use Prim.Native.Nat.{ℕ, _+_, _-_, _≤_, _<_}
-use mathlib.Core.List.{List, []}
-use mathlib.Core.Bool.{Bool, true, false}
+use Prim.Native.Nat.{ℕ, _+_, _≤_, _<_}
+use mathlib.Core.List.{List}
 use mathlib.Core.Path.{_≡_, refl, sym, ap, _∙_}
 use native.Mathlib.Omega.{arith}
-use native.Mathlib.Nat.{add-assoc}
 use lib.ListN.{length, take, drop}
 use borrow.Author.Tests.{le-leb, lt-leb}
-use denote.Ref.{RefT, ptr, now}
-use Rattle.status.specs.Pick.{pick}
+use denote.Ref.{RefT, now}
 use Rattle.status.proofs.Choose.{in-true, in-false}
 use Rattle.frame.specs.Lent.{Lent, none, partOf, within, Shows}
 
@@ -25,10 +22,6 @@ module _ (b : List ℕ) where
     pub whole-part : i + n ≤ length b → partOf b i n ≡ record { place = i; bytes = take n (drop i b) }
     unfolding partOf
     whole-part h = sym (in-true _ _ _ _ (le-leb _ _ h) refl)
-
--- r shows q's part where it shows p's, and these are one
-pub shows-as : (r b : RefT (List ℕ)) (p q : Lent) → p ≡ q → Shows r b p → Shows r b q
-shows-as r b p q e s = (s .0 ∙ ap (λ (x : Lent). x .bytes) e, s .1, s .2 ∙ ap (λ (x : Lent). ptr b .1 + x .place) e)
 
 -- r shows a part of what q shows, which is a part of what b shows
 pub shows-within : (r q b : RefT (List ℕ)) (p : Lent) (f : List ℕ → Lent) → Shows q b p → Shows r q (f (now q)) → Shows r b (within p f)

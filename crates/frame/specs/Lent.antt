@@ -23,6 +23,6 @@ partOf b i n = pick (leb (i + n) (length b)) (record { place = i; bytes = take n
 abbrev pub within : Lent → (List ℕ → Lent) → Lent
 within p f = record { place = p .place + f (p .bytes) .place; bytes = f (p .bytes) .bytes }
 
--- the reference r shows that part of what b shows, in place: no byte is copied
+-- the reference r shows that part of what b shows, in place: no byte is copied (ptr: which memory, and how far into it)
 abbrev pub Shows : RefT (List ℕ) → RefT (List ℕ) → Lent → Type 0
 Shows r b p = (now r ≡ p .bytes) × (ptr r .0 ≡ ptr b .0) × (ptr r .1 ≡ ptr b .1 + p .place)

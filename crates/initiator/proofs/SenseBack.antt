@@ -85,14 +85,14 @@ write-stands w f = unless-gives (Finds w f) (entryOf (holdsOf w) (w .sender .end
         subst (λ (b : Arrived). Passed WriteInitiator f b → Finds w f (write.takenOf (b .kind) w b f)) (p .is) (λ p. taken w f p (kindOf WriteInitiator (headerIn f .kind))) p
 
 module _ (r : Receiver) (f : List ℕ) (m : ℕ) where
-  abbrev Shows : Left Receiver → Type 0
-  Shows x = Stands (x .says) f
+  abbrev Found : Left Receiver → Type 0
+  Found x = Stands (x .says) f
 
-  data-shows : (offset : ℕ) (cdp : Bool) (n : ℕ) → Shows (arrivalOf r offset cdp n m)
+  data-found : (offset : ℕ) (cdp : Bool) (n : ℕ) → Found (arrivalOf r offset cdp n m)
   unfolding arrivalOf
-  data-shows offset cdp n = unless-gives Shows (entryOf (lentOf r m) (r .ended)) r _ (λ n. tt) (go (views.judges r offset cdp n))
+  data-found offset cdp n = unless-gives Found (entryOf (lentOf r m) (r .ended)) r _ (λ n. tt) (go (views.judges r offset cdp n))
     where
-      go : {x : Left Receiver} → views.Arrived r offset cdp n x → Shows x
+      go : {x : Left Receiver} → views.Arrived r offset cdp n x → Found x
       go (views.Arrived.full p) = tt
       go (views.Arrived.misplaced o p) = tt
       go (views.Arrived.long o p) = tt
@@ -100,30 +100,30 @@ module _ (r : Receiver) (f : List ℕ) (m : ℕ) where
       go (views.Arrived.skipped i s) = tt
       go (views.Arrived.stored i s) = picked (λ (a : Said). Stands a f) (eqb (max (r .filled) (offset + n)) (r .end)) Said.received Said.stored tt tt
 
-  arrived : (p : Passed ReadInitiator f (arrivedIn ReadInitiator f)) (k : Kind) → Shows (read.takenOf k r (arrivedIn ReadInitiator f) f m)
+  arrived : (p : Passed ReadInitiator f (arrivedIn ReadInitiator f)) (k : Kind) → Found (read.takenOf k r (arrivedIn ReadInitiator f) f m)
   unfolding read.notExpectedOf read.responseOf
-  arrived p Kind.Data = data-shows (headerIn f .offset) (headerIn f .flags .cdp) (iuLength f)
+  arrived p Kind.Data = data-found (headerIn f .offset) (headerIn f .flags .cdp) (iuLength f)
   arrived p Kind.XferRdy = rejected (xferRdyOf (iuOf f))
     where
-      rejected : (y : Outcome XferRdy) → Shows (read.rejectedBy y r)
+      rejected : (y : Outcome XferRdy) → Found (read.rejectedBy y r)
       rejected (Outcome.number n) = tt
       rejected (Outcome.value x) = tt
   arrived p Kind.Response = opened (responseIuOf (iuOf f)) refl
     where
-      opened : (y : Outcome Opened) → responseIuOf (iuOf f) ≡ y → Shows (read.openedBy y r 24 (iuLength f))
+      opened : (y : Outcome Opened) → responseIuOf (iuOf f) ≡ y → Found (read.openedBy y r 24 (iuLength f))
       opened (Outcome.number n) e = tt
       opened (Outcome.value o) e = (refl, stands-there f p, whole ReadInitiator f _ p, e)
   arrived p Kind.Other = tt
 
 pub read-stands : ReadStands
 unfolding read.readArrivalOf
-read-stands r f m = unless-gives (Shows r f m) (entryOf (read.readLentOf r m) (r .ended)) r _ (λ n. tt) (go (acceptOf ReadInitiator (r .transfer) f) refl)
+read-stands r f m = unless-gives (Found r f m) (entryOf (read.readLentOf r m) (r .ended)) r _ (λ n. tt) (go (acceptOf ReadInitiator (r .transfer) f) refl)
   where
-    go : (x : Outcome Arrived) → acceptOf ReadInitiator (r .transfer) f ≡ x → Shows r f m (read.arrivedBy x r f m)
+    go : (x : Outcome Arrived) → acceptOf ReadInitiator (r .transfer) f ≡ x → Found r f m (read.arrivedBy x r f m)
     go (Outcome.number n) q = tt
     go (Outcome.value a) q =
         let p = passed (r .transfer) ReadInitiator f a q in
-        subst (λ (b : Arrived). Passed ReadInitiator f b → Shows r f m (read.takenOf (b .kind) r b f m)) (p .is) (λ p. arrived r f m p (kindOf ReadInitiator (headerIn f .kind))) p
+        subst (λ (b : Arrived). Passed ReadInitiator f b → Found r f m (read.takenOf (b .kind) r b f m)) (p .is) (λ p. arrived r f m p (kindOf ReadInitiator (headerIn f .kind))) p
 
 -- (b)
 response-kind : (role : Role) (kind : ℕ) → (role ≡ ReadInitiator) ⊎ (role ≡ WriteInitiator) → kind ≡ RESPONSE → kindOf role kind ≡ Kind.Response

@@ -57,6 +57,7 @@ WriteStands = (w : Writer) (f : List ℕ) → Stands (writeArrivalOf w f .says) 
 -- (b) a RESPONSE that was written for this port, with an IU of that kind, status and sense data, is taken where 1 and 2 do not apply, and they come back;
 -- (a) and (b) are proved in proofs/SenseBack.antt
 pub record Comes (t : Transfer) (h : Header) (n : ℕ) : Type 0 where
+  -- the frame's type
   pub kind : h .kind ≡ RESPONSE
   pub dest : h .dest ≡ t .local
   pub source : h .source ≡ t .remote

@@ -1,5 +1,5 @@
--- Request K9 worked out: RESPONSEs that arrive at the initiator of a read of ten bytes and of a write, each need just met, one below and one above.
--- Status codes and sense data are SPC's. Proved in proofs/WorkedResponse.antt.
+-- Request K9 worked out: RESPONSEs of each kind that arrive at the initiator of a read of ten bytes, each need just met, one below and one above, and of
+-- kinds 2 and 3 at that of a write. Status codes are SAM's, sense data SPC's. Proved in proofs/WorkedResponse.antt.
 use Prim.Native.Nat.{ℕ}
 use mathlib.Core.List.{List, [], _∷_, _++_}
 use mathlib.Core.Bool.{true}

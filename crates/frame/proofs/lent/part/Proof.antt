@@ -1,12 +1,9 @@
 use borrow.Author.Needs.{needs}
-use Prim.Native.Nat.{ℕ, _+_, _-_, _≤_}
-use mathlib.Core.List.{List}
-use mathlib.Core.Path.{_≡_, refl, sym, _∙_}
+use Prim.Native.Nat.{_+_, _-_}
+use mathlib.Core.Path.{_≡_, refl}
 use native.Mathlib.Omega.{arith}
-use lib.ListN.{length, take, drop}
-use denote.Ref.{RefT, ptr, now}
-use Rattle.frame.specs.Lent.{partOf, Shows}
-use Rattle.frame.proofs.Parts.{too-far, whole-part, shows-as}
+use denote.Ref.{now}
+use Rattle.frame.proofs.Parts.{too-far, whole-part}
 use Rattle.frame.proofs.lent.part.Statement.{statement}
 use Rattle.frame.proofs.lent.part.Tie as tie
 
