@@ -6,35 +6,33 @@
 
 #include "ssp.h"
 
-/* The text stays until the next call. */
+/* The case, and after a refusal or a failure the paper's word and number. The text stays until the next call. */
 static const char *word(ssp_answer a) {
-    static const char *const words[] = {
-        "refused",      "failed",    "wait",       "frame",
-        "taken",        "retry",     "unchanged",  "delivered",
-        "acknowledged", "discarded", "stored",     "received",
-        "next burst",   "next burst, the one before delivered",
-        "repeated",     "RESPONSE",  "ready",      "parsed",
-    };
-    static char text[64];
-    if (a.what >= sizeof words / sizeof words[0]) {
-        return "?";
-    }
+    static char text[96];
     if (a.number == 0) {
-        return words[a.what];
+        return ssp_what_name(a.what);
     }
-    snprintf(text, sizeof text, "%s, number %u", words[a.what], (unsigned)a.number);
+    snprintf(text, sizeof text, "%s, %s (%u)", ssp_what_name(a.what), ssp_number_name(a.number), (unsigned)a.number);
     return text;
+}
+
+/* The header that was compiled belongs to the archive that was linked. */
+static int same_version(void) {
+    if (ssp_version() == SSP_VERSION) {
+        return 1;
+    }
+    printf("ssp.h is %u, libssp.a is %u\n", (unsigned)SSP_VERSION, (unsigned)ssp_version());
+    return 0;
 }
 
 /* What a RESPONSE says: its status, and the sense data where they stand in the frame. */
 static void show_status(ssp_answer a, const uint8_t *frame, size_t len) {
-    ssp_part sense = {frame, 0};
+    ssp_part sense = ssp_sense(a, frame, len);
     size_t i;
     if (a.what != SSP_RESPONSE) {
         return; /* no status: 0 is not GOOD here */
     }
-    printf("status %02Xh, kind %u, %u bytes of sense data", (unsigned)a.status, (unsigned)a.kind,
-           (unsigned)ssp_sense_data(&sense, a, frame, len));
+    printf("status %02Xh, kind %u, %u bytes of sense data", (unsigned)a.status, (unsigned)a.kind, (unsigned)sense.len);
     if (sense.len > 0) {
         printf(" from byte %u:", (unsigned)(sense.at - frame));
     }

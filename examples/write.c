@@ -5,14 +5,15 @@
 
 #include "show.h"
 
-enum { COUNT = 24, SIZE = 8, WINDOW = 4, LIMIT = 2, BURST = 12, IU = 42 };
+enum { COUNT = 24, SIZE = 8, WINDOW = 4, LIMIT = 2, BURST = 12, IU = 42, TAG = 0x0034 };
+enum { INITIATOR = 0x123456, TARGET = 0xABCDEF }; /* hashed addresses */
 
 enum fate { WHOLE, DAMAGED };
 static const char *const fate_words[] = {"whole", "damaged"};
 
-static ssp_writer initiator; /* sends DATA */
-static ssp_target target;    /* sends XFER_RDY, receives DATA */
-static uint8_t sent[COUNT];  /* the initiator's data buffer */
+static ssp_write_initiator initiator; /* sends DATA; static, so all zero */
+static ssp_write_target target;       /* sends XFER_RDY, receives DATA */
+static uint8_t sent[COUNT];           /* the initiator's data buffer */
 static uint8_t received[COUNT];
 static uint8_t frame[SSP_FRAME_MOST];
 static size_t frame_len;
@@ -24,9 +25,9 @@ static void stop(const char *who, ssp_answer a) {
 
 /* The target hands out its XFER_RDY, which reaches the initiator whole. */
 static void xfer_rdy(void) {
-    ssp_header h = {0};
-    ssp_xfer_rdy x = {0, 0};
-    ssp_answer a = ssp_write_receive_next_frame(&target, frame, sizeof frame);
+    ssp_header h = SSP_ZERO;
+    ssp_xfer_rdy x = SSP_ZERO;
+    ssp_answer a = ssp_write_target_next_frame(&target, frame, sizeof frame);
     ssp_answer f;
     if (a.what != SSP_FRAME) {
         stop("target", a);
@@ -34,13 +35,13 @@ static void xfer_rdy(void) {
     f = ssp_frame_read(&h, frame, a.len);
     ssp_xfer_rdy_read(&x, frame + f.start, f.len);
     printf("XFER_RDY  offset %2u  length %u  TPTT %u  RETRY DATA FRAMES %d  RETRANSMIT %d  initiator: %s\n", (unsigned)x.offset,
-           (unsigned)x.len, (unsigned)h.tptt, h.retry, h.retransmit, word(ssp_write_send_frame(&initiator, frame, a.len)));
+           (unsigned)x.len, (unsigned)h.tptt, h.retry, h.retransmit, word(ssp_write_initiator_frame_received(&initiator, frame, a.len)));
 }
 
 /* The initiator hands out a DATA frame, which meets its fate. */
 static void data(enum fate fate) {
-    ssp_header h = {0};
-    ssp_answer a = ssp_write_send_next_frame(&initiator, sent, COUNT, frame, sizeof frame);
+    ssp_header h = SSP_ZERO;
+    ssp_answer a = ssp_write_initiator_next_frame(&initiator, sent, COUNT, frame, sizeof frame);
     ssp_answer f;
     const char *what = "nothing";
     if (a.what != SSP_FRAME) {
@@ -49,18 +50,18 @@ static void data(enum fate fate) {
     frame_len = a.len;
     f = ssp_frame_read(&h, frame, frame_len);
     if (fate == WHOLE) {
-        what = word(ssp_write_receive_frame(&target, frame, frame_len, received, COUNT));
+        what = word(ssp_write_target_frame_received(&target, frame, frame_len, received, COUNT));
     }
     printf("DATA  offset %2u  bytes %u  CDP %d  TPTT %u  %-7s  target: %s\n", (unsigned)h.offset, (unsigned)f.len, h.cdp,
            (unsigned)h.tptt, fate_words[fate], what);
 }
 
 static void initiator_waits(void) {
-    ssp_answer a = ssp_write_send_next_frame(&initiator, sent, COUNT, frame, sizeof frame);
+    ssp_answer a = ssp_write_initiator_next_frame(&initiator, sent, COUNT, frame, sizeof frame);
     printf("initiator asked for a frame: %s\n", word(a));
 }
 
-/* An answer that reaches the initiator. */
+/* A confirmation that reaches the initiator. */
 static void tell(const char *event, ssp_answer a) {
     printf("%-7s  initiator: %-9s  unanswered %u  next %2u  retries %u\n", event, word(a), (unsigned)initiator.sender.unanswered,
            (unsigned)initiator.sender.next, (unsigned)initiator.sender.retries);
@@ -74,43 +75,43 @@ static void respond(ssp_transfer t) {
      * near. */
     static const uint8_t iu[IU] = {0, 0, 0, 0, 0, 0, 0, 0, 0, 0, SSP_DATAPRES_SENSE_DATA, 0x02, 0, 0, 0, 0, 0, 0, 0, 18, 0, 0, 0, 0,
                                    0x70, 0, 0x40, 0, 0, 0, 0, 10, 0, 0, 0, 0, 0x00, 0x02};
-    ssp_responder responder = {0};
+    ssp_response responder = SSP_ZERO;
     ssp_answer a, b;
     ssp_response_set_up(&responder, t, IU);
     a = ssp_response_next_frame(&responder, iu, IU, frame, sizeof frame);
-    b = ssp_write_send_frame(&initiator, frame, a.len);
+    b = ssp_write_initiator_frame_received(&initiator, frame, a.len);
     printf("RESPONSE  %u bytes  initiator: %s, IU of %u bytes from byte %u, %u frames in the last burst\n", (unsigned)a.len, word(b),
            (unsigned)b.len, (unsigned)b.start, (unsigned)b.frames);
     show_status(b, frame, a.len);
-    printf("ACK of the RESPONSE: %s\n", word(ssp_response_ack(&responder)));
+    printf("ACK of the RESPONSE: %s\n", word(ssp_response_ack_received(&responder)));
+}
+
+/* The write as one port has it: smaller frames and a smaller window than by default, so that the few bytes take several. */
+static ssp_transfer transfer(uint32_t local, uint32_t remote) {
+    ssp_transfer t = ssp_write_transfer(COUNT, local, remote, TAG, BURST);
+    t.size = SIZE;
+    t.window = WINDOW;
+    t.limit = LIMIT;
+    return t;
 }
 
 int main(void) {
-    ssp_transfer at_initiator = {0};
-    ssp_transfer at_target;
+    ssp_transfer at_initiator = transfer(INITIATOR, TARGET);
+    ssp_transfer at_target = transfer(TARGET, INITIATOR);
     uint8_t early[SSP_FRAME_MOST];
     size_t early_len;
     unsigned i;
 
-    at_initiator.write = true;
-    at_initiator.count = COUNT;
-    at_initiator.size = SIZE;
-    at_initiator.window = WINDOW;
-    at_initiator.limit = LIMIT;
-    at_initiator.burst = BURST;
-    at_initiator.local = 0x123456;
-    at_initiator.remote = 0xABCDEF;
-    at_initiator.tag = 0x0034;
-    at_target = at_initiator;
-    at_target.local = at_initiator.remote;
-    at_target.remote = at_initiator.local;
+    if (!same_version()) {
+        return 1;
+    }
     for (i = 0; i < COUNT; i++) {
         sent[i] = (uint8_t)(i + 1);
     }
 
     printf("write: %d bytes, %d per frame, window %d, retry limit %d, bursts of %d\n", COUNT, SIZE, WINDOW, LIMIT, BURST);
-    if (ssp_write_send_set_up(&initiator, at_initiator).what != SSP_READY ||
-        ssp_write_receive_set_up(&target, at_target).what != SSP_READY) {
+    if (ssp_write_initiator_set_up(&initiator, at_initiator).what != SSP_READY ||
+        ssp_write_target_set_up(&target, at_target).what != SSP_READY) {
         printf("not set up\n");
         return 1;
     }
@@ -122,34 +123,34 @@ int main(void) {
     data(WHOLE);
     memcpy(early, frame, frame_len);
     early_len = frame_len;
-    tell("ACK", ssp_write_send_ack(&initiator));
-    printf("timeout  target: %s\n", word(ssp_write_receive_timeout(&target)));
+    tell("ACK", ssp_write_initiator_ack_received(&initiator));
+    printf("timeout  target: %s\n", word(ssp_write_target_ack_nak_timeout(&target)));
 
     /* It is sent again, and the initiator starts the burst again. */
     xfer_rdy();
-    printf("ACK      target: %s\n", word(ssp_write_receive_ack(&target)));
-    printf("DATA under TPTT 0 once more: %s\n", word(ssp_write_receive_frame(&target, early, early_len, received, COUNT)));
+    printf("ACK      target: %s\n", word(ssp_write_target_ack_received(&target)));
+    printf("DATA under TPTT 0 once more: %s\n", word(ssp_write_target_frame_received(&target, early, early_len, received, COUNT)));
     data(WHOLE);
     data(WHOLE);
     initiator_waits();
-    tell("ACK", ssp_write_send_ack(&initiator));
-    tell("ACK", ssp_write_send_ack(&initiator));
+    tell("ACK", ssp_write_initiator_ack_received(&initiator));
+    tell("ACK", ssp_write_initiator_ack_received(&initiator));
 
     /* The second burst: its first frame is damaged. */
     xfer_rdy();
-    printf("ACK      target: %s\n", word(ssp_write_receive_ack(&target)));
+    printf("ACK      target: %s\n", word(ssp_write_target_ack_received(&target)));
     data(DAMAGED);
     data(WHOLE);
     initiator_waits();
-    tell("NAK", ssp_write_send_nak(&initiator));
-    tell("ACK", ssp_write_send_ack(&initiator));
+    tell("NAK", ssp_write_initiator_nak_received(&initiator));
+    tell("ACK", ssp_write_initiator_ack_received(&initiator));
     data(WHOLE);
     data(WHOLE);
     initiator_waits();
-    tell("ACK", ssp_write_send_ack(&initiator));
-    tell("ACK", ssp_write_send_ack(&initiator));
+    tell("ACK", ssp_write_initiator_ack_received(&initiator));
+    tell("ACK", ssp_write_initiator_ack_received(&initiator));
 
-    printf("target asked for a frame: %s\n", word(ssp_write_receive_next_frame(&target, frame, sizeof frame)));
+    printf("target asked for a frame: %s\n", word(ssp_write_target_next_frame(&target, frame, sizeof frame)));
     printf("data: %u of %d bytes as at the initiator\n", same_bytes(sent, received, COUNT), COUNT);
     respond(at_target);
     initiator_waits();

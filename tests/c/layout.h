@@ -53,28 +53,30 @@ static int same_transfer(ssp_transfer a, ssp_transfer b) {
 static int same_burst(ssp_burst a, ssp_burst b) {
     return a.base == b.base && a.end == b.end && a.tptt == b.tptt && a.limit == b.limit;
 }
-static int same_sender(ssp_sender a, ssp_sender b) {
-    return same_transfer(a.transfer, b.transfer) && same_burst(a.burst, b.burst) && a.next == b.next && a.balance == b.balance &&
-           a.unanswered == b.unanswered && a.nak == b.nak && a.cdp == b.cdp && a.retries == b.retries && a.frames == b.frames &&
-           a.ended == b.ended;
+/* a sending port: ssp_read_target, and ssp_sender in ssp_write_initiator */
+#define SAME_SENDER(a, b)                                                                                                            \
+    (same_transfer((a).transfer, (b).transfer) && same_burst((a).burst, (b).burst) && (a).next == (b).next && (a).balance == (b).balance && \
+     (a).unanswered == (b).unanswered && (a).nak == (b).nak && (a).cdp == (b).cdp && (a).retries == (b).retries &&                    \
+     (a).frames == (b).frames && (a).ended == (b).ended)
+/* a receiving port: ssp_read_initiator, and ssp_receiver in ssp_write_target */
+#define SAME_RECEIVER(a, b)                                                                                                 \
+    (same_transfer((a).transfer, (b).transfer) && (a).base == (b).base && (a).end == (b).end && (a).expected == (b).expected && \
+     (a).filled == (b).filled && (a).waiting == (b).waiting && (a).ended == (b).ended)
+static int same_sender(ssp_read_target a, ssp_read_target b) { return SAME_SENDER(a, b); }
+static int same_receiver(ssp_read_initiator a, ssp_read_initiator b) { return SAME_RECEIVER(a, b); }
+static int same_writer(ssp_write_initiator a, ssp_write_initiator b) {
+    return SAME_SENDER(a.sender, b.sender) && a.reached == b.reached && a.pending == b.pending && same_burst(a.taken, b.taken);
 }
-static int same_receiver(ssp_receiver a, ssp_receiver b) {
-    return same_transfer(a.transfer, b.transfer) && a.base == b.base && a.end == b.end && a.expected == b.expected &&
-           a.filled == b.filled && a.waiting == b.waiting && a.ended == b.ended;
-}
-static int same_writer(ssp_writer a, ssp_writer b) {
-    return same_sender(a.sender, b.sender) && a.reached == b.reached && a.pending == b.pending && same_burst(a.taken, b.taken);
-}
-static int same_target(ssp_target a, ssp_target b) {
-    return same_receiver(a.receiver, b.receiver) && a.state == b.state && a.tptt == b.tptt && a.retries == b.retries &&
+static int same_target(ssp_write_target a, ssp_write_target b) {
+    return SAME_RECEIVER(a.receiver, b.receiver) && a.state == b.state && a.tptt == b.tptt && a.retries == b.retries &&
            a.stored == b.stored && a.under == b.under && a.since == b.since;
 }
-static int same_responder(ssp_responder a, ssp_responder b) {
+static int same_responder(ssp_response a, ssp_response b) {
     return same_transfer(a.transfer, b.transfer) && a.len == b.len && a.unanswered == b.unanswered && a.retries == b.retries &&
            a.ended == b.ended;
 }
 static int same_header(ssp_header a, ssp_header b) {
-    return a.kind == b.kind && a.dest == b.dest && a.source == b.source && a.retry == b.retry && a.retransmit == b.retransmit &&
+    return a.type == b.type && a.dest == b.dest && a.source == b.source && a.retry == b.retry && a.retransmit == b.retransmit &&
            a.cdp == b.cdp && a.tlr == b.tlr && a.tag == b.tag && a.tptt == b.tptt && a.offset == b.offset;
 }
 
@@ -105,8 +107,8 @@ static ssp_burst burst(uint32_t base, uint32_t end, uint16_t tptt, uint32_t limi
     return b;
 }
 
-static ssp_sender sender(void) {
-    ssp_sender s;
+static ssp_read_target sender(void) {
+    ssp_read_target s;
     memset(&s, 0, sizeof s);
     s.transfer = transfer(false, THERE, HERE);
     s.burst = burst(0, COUNT, 0, 2);
@@ -118,8 +120,8 @@ static ssp_sender sender(void) {
     return s;
 }
 
-static ssp_receiver receiver(void) {
-    ssp_receiver r;
+static ssp_read_initiator receiver(void) {
+    ssp_read_initiator r;
     memset(&r, 0, sizeof r);
     r.transfer = transfer(false, HERE, THERE);
     r.end = COUNT;
@@ -128,23 +130,28 @@ static ssp_receiver receiver(void) {
     return r;
 }
 
-static ssp_writer writer(void) {
-    ssp_writer w;
+static ssp_write_initiator writer(void) {
+    ssp_write_initiator w;
     memset(&w, 0, sizeof w);
-    w.sender = sender();
     w.sender.transfer = transfer(true, HERE, THERE);
     w.sender.burst = burst(8, 24, 0x0102, 2);
+    w.sender.next = 16;
+    w.sender.balance = 8;
+    w.sender.unanswered = 2;
+    w.sender.retries = 1;
+    w.sender.frames = 5;
     w.reached = 24;
     return w;
 }
 
-static ssp_target target(void) {
-    ssp_target x;
+static ssp_write_target target(void) {
+    ssp_write_target x;
     memset(&x, 0, sizeof x);
-    x.receiver = receiver();
     x.receiver.transfer = transfer(true, THERE, HERE);
     x.receiver.base = 8;
     x.receiver.end = 40;
+    x.receiver.expected = 16;
+    x.receiver.filled = 24;
     x.state = SSP_STATE_READY;
     x.tptt = 0x0102;
     x.retries = 1;
@@ -152,18 +159,18 @@ static ssp_target target(void) {
     return x;
 }
 
-static ssp_responder responder(void) {
-    ssp_responder x;
+static ssp_response responder(void) {
+    ssp_response x;
     memset(&x, 0, sizeof x);
     x.transfer = transfer(false, THERE, HERE);
     x.len = 28;
     return x;
 }
 
-static ssp_header header(uint8_t kind, uint32_t dest, uint32_t source) {
+static ssp_header header(uint8_t type, uint32_t dest, uint32_t source) {
     ssp_header h;
     memset(&h, 0, sizeof h);
-    h.kind = kind;
+    h.type = type;
     h.dest = dest;
     h.source = source;
     h.tag = TAG;
@@ -172,13 +179,13 @@ static ssp_header header(uint8_t kind, uint32_t dest, uint32_t source) {
 
 /* ---- calls ---- */
 
-static ssp_answer ask(ssp_sender *s) { return ssp_read_send_next_frame(s, data, COUNT, out, sizeof out); }
-static ssp_answer ask_write(ssp_writer *w) { return ssp_write_send_next_frame(w, data, COUNT, out, sizeof out); }
-static ssp_answer ask_target(ssp_target *x) { return ssp_write_receive_next_frame(x, out, sizeof out); }
-static ssp_answer ask_response(ssp_responder *x) { return ssp_response_next_frame(x, iu, 28, out, sizeof out); }
+static ssp_answer ask(ssp_read_target *s) { return ssp_read_target_next_frame(s, data, COUNT, out, sizeof out); }
+static ssp_answer ask_write(ssp_write_initiator *w) { return ssp_write_initiator_next_frame(w, data, COUNT, out, sizeof out); }
+static ssp_answer ask_target(ssp_write_target *x) { return ssp_write_target_next_frame(x, out, sizeof out); }
+static ssp_answer ask_response(ssp_response *x) { return ssp_response_next_frame(x, iu, 28, out, sizeof out); }
 
 /* A DATA frame with n bytes of `data` from `offset` arrives in a read at the initiator, which is lent `len` bytes. */
-static ssp_answer arrive(ssp_receiver *r, uint32_t offset, bool cdp, size_t n, size_t len) {
+static ssp_answer arrive(ssp_read_initiator *r, uint32_t offset, bool cdp, size_t n, size_t len) {
     ssp_header h = header(SSP_TYPE_DATA, HERE, THERE);
     ssp_answer f;
     h.tlr = arriving;
@@ -186,11 +193,11 @@ static ssp_answer arrive(ssp_receiver *r, uint32_t offset, bool cdp, size_t n, s
     h.offset = offset;
     f = ssp_frame_write(h, data + offset, n, out, sizeof out);
     memset(room, 0xEE, sizeof room);
-    return ssp_read_receive_frame(r, out, f.len, room, len);
+    return ssp_read_initiator_frame_received(r, out, f.len, room, len);
 }
 
 /* The same in a write at the target. */
-static ssp_answer arrive_target(ssp_target *x, uint16_t tptt, uint32_t offset, bool cdp, size_t n, size_t len) {
+static ssp_answer arrive_target(ssp_write_target *x, uint16_t tptt, uint32_t offset, bool cdp, size_t n, size_t len) {
     ssp_header h = header(SSP_TYPE_DATA, THERE, HERE);
     ssp_answer f;
     h.tlr = arriving;
@@ -199,11 +206,11 @@ static ssp_answer arrive_target(ssp_target *x, uint16_t tptt, uint32_t offset, b
     h.tptt = tptt;
     f = ssp_frame_write(h, data + offset, n, out, sizeof out);
     memset(room, 0xEE, sizeof room);
-    return ssp_write_receive_frame(x, out, f.len, room, len);
+    return ssp_write_target_frame_received(x, out, f.len, room, len);
 }
 
 /* An XFER_RDY arrives in a write at the initiator. */
-static ssp_answer arrive_xfer_rdy(ssp_writer *w, uint32_t offset, uint32_t len, bool retry, bool retransmit) {
+static ssp_answer arrive_xfer_rdy(ssp_write_initiator *w, uint32_t offset, uint32_t len, bool retry, bool retransmit) {
     ssp_header h = header(SSP_TYPE_XFER_RDY, HERE, THERE);
     ssp_xfer_rdy x;
     uint8_t request[SSP_XFER_RDY_IU];
@@ -216,7 +223,7 @@ static ssp_answer arrive_xfer_rdy(ssp_writer *w, uint32_t offset, uint32_t len, 
     h.tptt = 0x0506;
     ssp_xfer_rdy_write(x, request, sizeof request);
     f = ssp_frame_write(h, request, sizeof request, out, sizeof out);
-    return ssp_write_send_frame(w, out, f.len);
+    return ssp_write_initiator_frame_received(w, out, f.len);
 }
 
 /* Bytes from to end are those of `data`, all others of `room` untouched. */
@@ -243,34 +250,34 @@ static uint32_t be(unsigned at, unsigned n) {
 
 /* 1 by each of the four set-ups that take a transfer of that direction, or by none. */
 static int all_refuse(ssp_transfer t) {
-    ssp_sender s = sender(), s0 = s;
-    ssp_receiver r = receiver(), r0 = r;
-    ssp_writer w = writer(), w0 = w;
-    ssp_target x = target(), x0 = x;
-    ssp_responder p = responder(), p0 = p;
+    ssp_read_target s = sender(), s0 = s;
+    ssp_read_initiator r = receiver(), r0 = r;
+    ssp_write_initiator w = writer(), w0 = w;
+    ssp_write_target x = target(), x0 = x;
+    ssp_response p = responder(), p0 = p;
     int ok = 1;
     t.write = false;
-    ok &= refused(ssp_read_send_set_up(&s, t), 1) && same_sender(s, s0);
-    ok &= refused(ssp_read_receive_set_up(&r, t), 1) && same_receiver(r, r0);
+    ok &= refused(ssp_read_target_set_up(&s, t), 1) && same_sender(s, s0);
+    ok &= refused(ssp_read_initiator_set_up(&r, t), 1) && same_receiver(r, r0);
     t.write = true;
-    ok &= refused(ssp_write_send_set_up(&w, t), 1) && same_writer(w, w0);
-    ok &= refused(ssp_write_receive_set_up(&x, t), 1) && same_target(x, x0);
+    ok &= refused(ssp_write_initiator_set_up(&w, t), 1) && same_writer(w, w0);
+    ok &= refused(ssp_write_target_set_up(&x, t), 1) && same_target(x, x0);
     ok &= refused(ssp_response_set_up(&p, t, 28), 1) && same_responder(p, p0);
     return ok;
 }
 static int all_take(ssp_transfer t) {
-    ssp_sender s = sender();
-    ssp_receiver r = receiver();
-    ssp_writer w = writer();
-    ssp_target x = target();
-    ssp_responder p = responder();
+    ssp_read_target s = sender();
+    ssp_read_initiator r = receiver();
+    ssp_write_initiator w = writer();
+    ssp_write_target x = target();
+    ssp_response p = responder();
     int ok = 1;
     t.write = false;
-    ok &= says(ssp_read_send_set_up(&s, t), SSP_READY) && same_transfer(s.transfer, t);
-    ok &= says(ssp_read_receive_set_up(&r, t), SSP_READY) && same_transfer(r.transfer, t);
+    ok &= says(ssp_read_target_set_up(&s, t), SSP_READY) && same_transfer(s.transfer, t);
+    ok &= says(ssp_read_initiator_set_up(&r, t), SSP_READY) && same_transfer(r.transfer, t);
     t.write = true;
-    ok &= says(ssp_write_send_set_up(&w, t), SSP_READY) && same_transfer(w.sender.transfer, t);
-    ok &= says(ssp_write_receive_set_up(&x, t), SSP_READY) && same_transfer(x.receiver.transfer, t);
+    ok &= says(ssp_write_initiator_set_up(&w, t), SSP_READY) && same_transfer(w.sender.transfer, t);
+    ok &= says(ssp_write_target_set_up(&x, t), SSP_READY) && same_transfer(x.receiver.transfer, t);
     ok &= says(ssp_response_set_up(&p, t, 28), SSP_READY) && same_transfer(p.transfer, t);
     return ok;
 }

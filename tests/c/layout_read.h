@@ -1,15 +1,15 @@
 /* Transfer, sending record, receiving record: part of layout.c. */
 static void transfer_fields(void) {
-    ssp_sender s = sender(), want_s;
-    ssp_receiver r = receiver(), want_r;
-    ssp_writer w = writer(), want_w;
-    ssp_target x = target(), want_x;
+    ssp_read_target s = sender(), want_s;
+    ssp_read_initiator r = receiver(), want_r;
+    ssp_write_initiator w = writer(), want_w;
+    ssp_write_target x = target(), want_x;
     ssp_transfer t = transfer(false, HERE, THERE);
 
-    TRY("ssp_transfer.write in a read's set-up", says(ssp_read_send_set_up(&s, t), SSP_READY));
-    TRY("ssp_transfer.write in a read's set-up", says(ssp_read_receive_set_up(&r, t), SSP_READY));
-    TRY("ssp_transfer.write in a write's set-up", refused(ssp_write_send_set_up(&w, t), 1) && same_writer(w, writer()));
-    TRY("ssp_transfer.write in a write's set-up", refused(ssp_write_receive_set_up(&x, t), 1) && same_target(x, target()));
+    TRY("ssp_transfer.write in a read's set-up", says(ssp_read_target_set_up(&s, t), SSP_READY));
+    TRY("ssp_transfer.write in a read's set-up", says(ssp_read_initiator_set_up(&r, t), SSP_READY));
+    TRY("ssp_transfer.write in a write's set-up", refused(ssp_write_initiator_set_up(&w, t), 1) && same_writer(w, writer()));
+    TRY("ssp_transfer.write in a write's set-up", refused(ssp_write_target_set_up(&x, t), 1) && same_target(x, target()));
     memset(&want_s, 0, sizeof want_s);
     want_s.transfer = t;
     want_s.burst = burst(0, COUNT, 0, 2);
@@ -22,10 +22,10 @@ static void transfer_fields(void) {
     t.write = true;
     s = sender();
     r = receiver();
-    TRY("ssp_transfer.write in a read's set-up", refused(ssp_read_send_set_up(&s, t), 1) && same_sender(s, sender()));
-    TRY("ssp_transfer.write in a read's set-up", refused(ssp_read_receive_set_up(&r, t), 1) && same_receiver(r, receiver()));
-    TRY("ssp_transfer.write in a write's set-up", says(ssp_write_send_set_up(&w, t), SSP_READY));
-    TRY("ssp_transfer.write in a write's set-up", says(ssp_write_receive_set_up(&x, t), SSP_READY));
+    TRY("ssp_transfer.write in a read's set-up", refused(ssp_read_target_set_up(&s, t), 1) && same_sender(s, sender()));
+    TRY("ssp_transfer.write in a read's set-up", refused(ssp_read_initiator_set_up(&r, t), 1) && same_receiver(r, receiver()));
+    TRY("ssp_transfer.write in a write's set-up", says(ssp_write_initiator_set_up(&w, t), SSP_READY));
+    TRY("ssp_transfer.write in a write's set-up", says(ssp_write_target_set_up(&x, t), SSP_READY));
     memset(&want_w, 0, sizeof want_w);
     want_w.sender.transfer = t;
     want_w.sender.burst = burst(0, 0, 0, 2);
@@ -63,19 +63,19 @@ static void transfer_fields(void) {
     BOUND(tag, 0xFFFF, all_take);
 }
 
-/* ---- ssp_sender: a read at the target ---- */
+/* ---- ssp_read_target: a read at the target ---- */
 
 /* Sets one field of a record, then tries the call. */
 #define SENDER(field, value, ok)                               \
     do {                                                       \
-        ssp_sender s = sender();                               \
+        ssp_read_target s = sender();                               \
         s.field = (value);                                     \
-        TRY("ssp_sender." #field " = " #value ": " #ok, (ok)); \
+        TRY("ssp_read_target." #field " = " #value ": " #ok, (ok)); \
     } while (0)
 
 static void sender_fields(void) {
     {
-        ssp_sender s = sender(), want = s;
+        ssp_read_target s = sender(), want = s;
         memset(out, 0xEE, sizeof out);
         TRY("a frame of a read", framed(ask(&s), 32));
         want.next = 24;
@@ -85,10 +85,10 @@ static void sender_fields(void) {
         TRY("a frame of a read: its bytes", memcmp(out + 24, data + 16, 8) == 0 && out[32] == 0xEE);
     }
     SENDER(transfer.write, true, refused(ask(&s), 1));
-    SENDER(transfer.write, true, refused(ssp_read_send_ack(&s), 1));
+    SENDER(transfer.write, true, refused(ssp_read_target_ack_received(&s), 1));
     SENDER(transfer.count, 47, refused(ask(&s), 1));
-    SENDER(transfer.count, 47, framed(ssp_read_send_next_frame(&s, data, 47, out, sizeof out), 32));
-    SENDER(transfer.count, 45, refused(ssp_read_send_next_frame(&s, data, 45, out, sizeof out), 1)); /* the end is above it */
+    SENDER(transfer.count, 47, framed(ssp_read_target_next_frame(&s, data, 47, out, sizeof out), 32));
+    SENDER(transfer.count, 45, refused(ssp_read_target_next_frame(&s, data, 45, out, sizeof out), 1)); /* the end is above it */
     SENDER(transfer.size, 12, framed(ask(&s), 36));
     SENDER(transfer.size, 6, refused(ask(&s), 1));
     SENDER(transfer.window, 2, says(ask(&s), SSP_WAIT));
@@ -111,76 +111,76 @@ static void sender_fields(void) {
     SENDER(burst.end, 15, refused(ask(&s), 1)); /* below the next offset */
     SENDER(burst.end, 47, refused(ask(&s), 1)); /* above the byte count */
     SENDER(burst.tptt, 0xBEEF, framed(ask(&s), 32) && be(18, 2) == 0 && s.burst.tptt == 0xBEEF);
-    SENDER(burst.limit, 1, failed(ssp_read_send_timeout(&s), 29, 5) && s.ended);
-    SENDER(burst.limit, 0, refused(ssp_read_send_timeout(&s), 1)); /* below the retries */
-    SENDER(burst.limit, 3, refused(ssp_read_send_timeout(&s), 1)); /* above the transfer's */
+    SENDER(burst.limit, 1, failed(ssp_read_target_ack_nak_timeout(&s), 29, 5) && s.ended);
+    SENDER(burst.limit, 0, refused(ssp_read_target_ack_nak_timeout(&s), 1)); /* below the retries */
+    SENDER(burst.limit, 3, refused(ssp_read_target_ack_nak_timeout(&s), 1)); /* above the transfer's */
     SENDER(next, 9, framed(ask(&s), 32) && be(20, 4) == 9 && s.next == 17 && out[24] == data[9]);
     SENDER(next, 7, refused(ask(&s), 1)); /* below the balance point */
     SENDER(next, 40, framed(ask(&s), 32) && s.next == 46 && out[11] == 2);
     SENDER(next, 46, says(ask(&s), SSP_WAIT));
     SENDER(next, 47, refused(ask(&s), 1));
-    SENDER(balance, 12, says(ssp_read_send_timeout(&s), SSP_RETRY) && s.next == 12 && s.balance == 12);
-    SENDER(balance, 17, refused(ssp_read_send_timeout(&s), 1));
-    SENDER(unanswered, 0, refused(ssp_read_send_ack(&s), 4) && refused(ssp_read_send_nak(&s), 4) && refused(ssp_read_send_timeout(&s), 4));
-    SENDER(unanswered, 0, says(ssp_read_send_cut(&s), SSP_UNCHANGED));
-    SENDER(unanswered, 1, says(ssp_read_send_ack(&s), SSP_TAKEN) && s.unanswered == 0 && s.balance == 16 && s.retries == 0);
+    SENDER(balance, 12, says(ssp_read_target_ack_nak_timeout(&s), SSP_RETRY) && s.next == 12 && s.balance == 12);
+    SENDER(balance, 17, refused(ssp_read_target_ack_nak_timeout(&s), 1));
+    SENDER(unanswered, 0, refused(ssp_read_target_ack_received(&s), 4) && refused(ssp_read_target_nak_received(&s), 4) && refused(ssp_read_target_ack_nak_timeout(&s), 4));
+    SENDER(unanswered, 0, says(ssp_read_target_connection_lost(&s), SSP_UNCHANGED));
+    SENDER(unanswered, 1, says(ssp_read_target_ack_received(&s), SSP_TAKEN) && s.unanswered == 0 && s.balance == 16 && s.retries == 0);
     SENDER(unanswered, 3, says(ask(&s), SSP_WAIT));
     SENDER(unanswered, 4, refused(ask(&s), 1)); /* above the window */
     SENDER(nak, true, says(ask(&s), SSP_WAIT));
-    SENDER(nak, false, says(ssp_read_send_ack(&s), SSP_TAKEN) && says(ssp_read_send_ack(&s), SSP_TAKEN) && s.balance == 16);
-    SENDER(nak, true, says(ssp_read_send_ack(&s), SSP_TAKEN) && says(ssp_read_send_ack(&s), SSP_RETRY) && !s.nak && s.cdp);
-    SENDER(nak, false, says(ssp_read_send_nak(&s), SSP_TAKEN) && s.nak && s.unanswered == 1);
+    SENDER(nak, false, says(ssp_read_target_ack_received(&s), SSP_TAKEN) && says(ssp_read_target_ack_received(&s), SSP_TAKEN) && s.balance == 16);
+    SENDER(nak, true, says(ssp_read_target_ack_received(&s), SSP_TAKEN) && says(ssp_read_target_ack_received(&s), SSP_RETRY) && !s.nak && s.cdp);
+    SENDER(nak, false, says(ssp_read_target_nak_received(&s), SSP_TAKEN) && s.nak && s.unanswered == 1);
     SENDER(cdp, true, framed(ask(&s), 32) && out[10] == 1 && !s.cdp);
     SENDER(cdp, false, framed(ask(&s), 32) && out[10] == 0);
-    SENDER(retries, 0, says(ssp_read_send_timeout(&s), SSP_RETRY) && s.retries == 1 && s.cdp && s.unanswered == 0 && s.next == 8);
-    SENDER(retries, 2, failed(ssp_read_send_timeout(&s), 29, 5));
-    SENDER(retries, 2, failed(ssp_read_send_cut(&s), 30, 5));
-    SENDER(retries, 3, refused(ssp_read_send_timeout(&s), 1)); /* above the limit */
-    SENDER(frames, MANY, failed(ssp_read_send_nexus_loss(&s), 31, MANY));
-    SENDER(frames, TOO_MANY - 1, failed(ssp_read_send_nexus_loss(&s), 31, TOO_MANY - 1));
-    SENDER(frames, TOO_MANY, refused(ssp_read_send_nexus_loss(&s), 1));
-    SENDER(ended, true, refused(ask(&s), 2) && refused(ssp_read_send_ack(&s), 2) && refused(ssp_read_send_nak(&s), 2));
-    SENDER(ended, true, refused(ssp_read_send_timeout(&s), 2) && refused(ssp_read_send_cut(&s), 2));
-    SENDER(ended, true, refused(ssp_read_send_nexus_loss(&s), 2) && refused(ssp_read_send_frame(&s, out, 32), 2));
+    SENDER(retries, 0, says(ssp_read_target_ack_nak_timeout(&s), SSP_RETRY) && s.retries == 1 && s.cdp && s.unanswered == 0 && s.next == 8);
+    SENDER(retries, 2, failed(ssp_read_target_ack_nak_timeout(&s), 29, 5));
+    SENDER(retries, 2, failed(ssp_read_target_connection_lost(&s), 30, 5));
+    SENDER(retries, 3, refused(ssp_read_target_ack_nak_timeout(&s), 1)); /* above the limit */
+    SENDER(frames, MANY, failed(ssp_read_target_nexus_lost(&s), 31, MANY));
+    SENDER(frames, TOO_MANY - 1, failed(ssp_read_target_nexus_lost(&s), 31, TOO_MANY - 1));
+    SENDER(frames, TOO_MANY, refused(ssp_read_target_nexus_lost(&s), 1));
+    SENDER(ended, true, refused(ask(&s), 2) && refused(ssp_read_target_ack_received(&s), 2) && refused(ssp_read_target_nak_received(&s), 2));
+    SENDER(ended, true, refused(ssp_read_target_ack_nak_timeout(&s), 2) && refused(ssp_read_target_connection_lost(&s), 2));
+    SENDER(ended, true, refused(ssp_read_target_nexus_lost(&s), 2) && refused(ssp_read_target_frame_received(&s, out, 32), 2));
     {
         /* the report: the last frame, its ACK, then nothing more */
-        ssp_sender s = sender(), want;
+        ssp_read_target s = sender(), want;
         s.next = COUNT;
         s.unanswered = 1;
         s.frames = MANY;
         want = s;
-        TRY("ssp_sender delivered", is(ssp_read_send_ack(&s), SSP_DELIVERED, 0, MANY, 0, 0));
+        TRY("ssp_read_target delivered", is(ssp_read_target_ack_received(&s), SSP_DELIVERED, 0, MANY, 0, 0));
         want.balance = COUNT;
         want.unanswered = 0;
         want.retries = 0;
         want.ended = true;
-        TRY("ssp_sender delivered: the record left", same_sender(s, want));
+        TRY("ssp_read_target delivered: the record left", same_sender(s, want));
     }
     {
-        ssp_sender s = sender();
-        TRY("an output buffer of 31 bytes", refused(ssp_read_send_next_frame(&s, data, COUNT, out, 31), 3) && same_sender(s, sender()));
-        TRY("an output buffer of 32 bytes", framed(ssp_read_send_next_frame(&s, data, COUNT, out, 32), 32));
+        ssp_read_target s = sender();
+        TRY("an output buffer of 31 bytes", refused(ssp_read_target_next_frame(&s, data, COUNT, out, 31), 3) && same_sender(s, sender()));
+        TRY("an output buffer of 32 bytes", framed(ssp_read_target_next_frame(&s, data, COUNT, out, 32), 32));
         s = sender();
         for (arriving = 0; arriving <= SSP_TLR_MOST; arriving++) {
             out[10] = (uint8_t)(arriving << 3);
-            TRY("31 bytes at a read's target", refused(ssp_read_send_frame(&s, out, 31), 5) && same_sender(s, sender()));
-            TRY("DATA at a read's target", refused(ssp_read_send_frame(&s, out, 32), 6) && same_sender(s, sender()));
+            TRY("31 bytes at a read's target", refused(ssp_read_target_frame_received(&s, out, 31), 5) && same_sender(s, sender()));
+            TRY("DATA at a read's target", refused(ssp_read_target_frame_received(&s, out, 32), 6) && same_sender(s, sender()));
         }
     }
 }
 
-/* ---- ssp_receiver: a read at the initiator ---- */
+/* ---- ssp_read_initiator: a read at the initiator ---- */
 
 #define RECEIVER(field, value, ok)                               \
     do {                                                         \
-        ssp_receiver r = receiver();                             \
+        ssp_read_initiator r = receiver();                             \
         r.field = (value);                                       \
-        TRY("ssp_receiver." #field " = " #value ": " #ok, (ok)); \
+        TRY("ssp_read_initiator." #field " = " #value ": " #ok, (ok)); \
     } while (0)
 
 static void receiver_fields(void) {
     {
-        ssp_receiver r = receiver(), want = r;
+        ssp_read_initiator r = receiver(), want = r;
         r.waiting = true;
         TRY("DATA with CDP one", says(arrive(&r, 20, true, 8, COUNT), SSP_STORED) && stored(20, 28));
         want.expected = 28;
@@ -188,7 +188,7 @@ static void receiver_fields(void) {
         TRY("DATA with CDP one: the record left", same_receiver(r, want));
     }
     RECEIVER(transfer.write, true, refused(arrive(&r, 16, false, 8, COUNT), 1) && stored(0, 0));
-    RECEIVER(transfer.write, true, refused(ssp_read_receive_nexus_loss(&r), 1));
+    RECEIVER(transfer.write, true, refused(ssp_read_initiator_nexus_lost(&r), 1));
     RECEIVER(transfer.count, 47, refused(arrive(&r, 16, false, 8, COUNT), 1));
     RECEIVER(transfer.count, 47, says(arrive(&r, 16, false, 8, 47), SSP_STORED));
     RECEIVER(transfer.count, 45, refused(arrive(&r, 16, false, 8, 45), 1)); /* the end is above it */
@@ -224,39 +224,39 @@ static void receiver_fields(void) {
     RECEIVER(waiting, true, says(arrive(&r, 16, false, 8, COUNT), SSP_DISCARDED) && r.waiting && stored(0, 0));
     RECEIVER(waiting, false, says(arrive(&r, 16, false, 8, COUNT), SSP_STORED) && stored(16, 24));
     RECEIVER(ended, true, refused(arrive(&r, 16, false, 8, COUNT), 2) && stored(0, 0));
-    RECEIVER(ended, true, refused(ssp_read_receive_nexus_loss(&r), 2));
-    RECEIVER(ended, false, failed(ssp_read_receive_nexus_loss(&r), 31, 0) && r.ended);
+    RECEIVER(ended, true, refused(ssp_read_initiator_nexus_lost(&r), 2));
+    RECEIVER(ended, false, failed(ssp_read_initiator_nexus_lost(&r), 31, 0) && r.ended);
     RECEIVER(ended, false, failed(arrive(&r, 16, false, 0, COUNT), 22, 0));
     {
-        ssp_receiver r = receiver();
+        ssp_read_initiator r = receiver();
         ssp_header h = header(SSP_TYPE_RESPONSE, HERE, THERE);
         ssp_answer f;
         h.tlr = arriving;
         iu[10] = 0x54; /* no data */
         f = ssp_frame_write(h, iu, 24, out, sizeof out);
-        TRY("a RESPONSE in a read", opened(ssp_read_receive_frame(&r, out, f.len, room, COUNT), SSP_RESPONSE, 0, 24, 24, 0, iu[11], 0) && r.ended);
+        TRY("a RESPONSE in a read", opened(ssp_read_initiator_frame_received(&r, out, f.len, room, COUNT), SSP_RESPONSE, 0, 24, 24, 0, iu[11], 0) && r.ended);
         r = receiver();
         f = ssp_frame_write(h, iu, 23, out, sizeof out);
-        TRY("a RESPONSE of 23 bytes", failed(ssp_read_receive_frame(&r, out, f.len, room, COUNT), 32, 0));
+        TRY("a RESPONSE of 23 bytes", failed(ssp_read_initiator_frame_received(&r, out, f.len, room, COUNT), 32, 0));
     }
 }
 
-/* ---- ssp_writer, ssp_burst: a write at the initiator ---- */
+/* ---- ssp_write_initiator, ssp_burst: a write at the initiator ---- */
 
 #define WRITER(field, value, ok)                               \
     do {                                                       \
-        ssp_writer w = writer();                               \
+        ssp_write_initiator w = writer();                               \
         w.field = (value);                                     \
-        TRY("ssp_writer." #field " = " #value ": " #ok, (ok)); \
+        TRY("ssp_write_initiator." #field " = " #value ": " #ok, (ok)); \
     } while (0)
 
 /* A burst is taken; nothing (or so much) is unanswered. */
 #define TAKEN(field, value, ok)                                          \
     do {                                                                 \
-        ssp_writer w = writer();                                         \
+        ssp_write_initiator w = writer();                                         \
         w.sender.unanswered = 0;                                         \
         w.pending = true;                                                \
         w.taken = burst(26, 44, 0x0304, 1);                              \
         w.field = (value);                                               \
-        TRY("ssp_writer, pending, " #field " = " #value ": " #ok, (ok)); \
+        TRY("ssp_write_initiator, pending, " #field " = " #value ": " #ok, (ok)); \
     } while (0)

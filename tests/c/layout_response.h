@@ -100,19 +100,19 @@ static void iu_read(const iu_vector *v, size_t n) {
 
 static void response_arrives(const iu_vector *v, size_t n) {
     ssp_header h = header(SSP_TYPE_RESPONSE, HERE, THERE);
-    ssp_receiver r = receiver(), ended_r = receiver();
-    ssp_writer w = writer(), ended_w = writer();
+    ssp_read_initiator r = receiver(), ended_r = receiver();
+    ssp_write_initiator w = writer(), ended_w = writer();
     ssp_answer f, a;
     uint8_t before[SSP_FRAME_MOST];
     f = ssp_frame_write(h, response_iu, n, out, sizeof out);
     memcpy(before, out, sizeof before);
     memset(room, 0xEE, sizeof room);
     /* a read: the record has ended and is else as it was, nothing is stored */
-    a = ssp_read_receive_frame(&r, out, f.len, room, COUNT);
+    a = ssp_read_initiator_frame_received(&r, out, f.len, room, COUNT);
     ended_r.ended = true;
     TRY(v->name, v->number > 0 ? failed(a, v->number, 0) : opened(a, SSP_RESPONSE, 0, 24, n, v->kind, v->status, v->sense));
     TRY(v->name, sensed(a, out, f.len, 48, v->sense) && same_receiver(r, ended_r) && stored(0, 0));
-    a = ssp_read_receive_frame(&r, out, f.len, room, COUNT);
+    a = ssp_read_initiator_frame_received(&r, out, f.len, room, COUNT);
     TRY(v->name, refused(a, 2) && sensed(a, out, f.len, 0, 0) && same_receiver(r, ended_r));
     /* a write, with frames unanswered, a NAK pending and a burst that waits */
     w.sender.frames = ended_w.sender.frames = MANY;
@@ -121,19 +121,19 @@ static void response_arrives(const iu_vector *v, size_t n) {
     w.taken = ended_w.taken = burst(26, 44, 0x0304, 1);
     ended_w.sender.unanswered = 0;
     ended_w.sender.ended = true;
-    a = ssp_write_send_frame(&w, out, f.len);
+    a = ssp_write_initiator_frame_received(&w, out, f.len);
     TRY(v->name, v->number > 0 ? failed(a, v->number, MANY) : opened(a, SSP_RESPONSE, MANY, 24, n, v->kind, v->status, v->sense));
     TRY(v->name, sensed(a, out, f.len, 48, v->sense) && same_writer(w, ended_w));
-    a = ssp_write_send_frame(&w, out, f.len);
+    a = ssp_write_initiator_frame_received(&w, out, f.len);
     TRY(v->name, refused(a, 2) && sensed(a, out, f.len, 0, 0) && same_writer(w, ended_w));
     /* for another command: 8, no part, the record stays */
     w = ended_w = writer();
     w.sender.transfer.tag = ended_w.sender.transfer.tag = TAG + 1;
-    a = ssp_write_send_frame(&w, out, f.len);
+    a = ssp_write_initiator_frame_received(&w, out, f.len);
     TRY(v->name, refused(a, 8) && sensed(a, out, f.len, 0, 0) && same_writer(w, ended_w));
     r = ended_r = receiver();
     r.transfer.tag = ended_r.transfer.tag = TAG + 1;
-    a = ssp_read_receive_frame(&r, out, f.len, room, COUNT);
+    a = ssp_read_initiator_frame_received(&r, out, f.len, room, COUNT);
     TRY(v->name, refused(a, 8) && sensed(a, out, f.len, 0, 0) && same_receiver(r, ended_r));
     TRY(v->name, memcmp(before, out, sizeof before) == 0 && stored(0, 0));
 }

@@ -1,7 +1,7 @@
 /* The RESPONSE's record, frame header and XFER_RDY, the writer in two steps: part of layout.c. */
 static void responder_fields(void) {
     {
-        ssp_responder x, want = responder();
+        ssp_response x, want = responder();
         memset(&x, 0, sizeof x);
         TRY("a RESPONSE's set-up", says(ssp_response_set_up(&x, want.transfer, 28), SSP_READY) && same_responder(x, want));
         TRY("a RESPONSE of 23 bytes", refused(ssp_response_set_up(&x, want.transfer, 23), 1));
@@ -26,23 +26,23 @@ static void responder_fields(void) {
     RESPONDER(len, 24, framed(ssp_response_next_frame(&x, iu, 24, out, sizeof out), 48));
     RESPONDER(len, 23, refused(ssp_response_next_frame(&x, iu, 23, out, sizeof out), 1));
     RESPONDER(unanswered, true, says(ask_response(&x), SSP_WAIT));
-    RESPONDER(unanswered, true, says(ssp_response_ack(&x), SSP_DELIVERED) && x.ended && !x.unanswered);
-    RESPONDER(unanswered, false, refused(ssp_response_ack(&x), 4) && refused(ssp_response_nak(&x), 4));
-    RESPONDER(unanswered, false, refused(ssp_response_timeout(&x), 4) && says(ssp_response_cut(&x), SSP_UNCHANGED));
+    RESPONDER(unanswered, true, says(ssp_response_ack_received(&x), SSP_DELIVERED) && x.ended && !x.unanswered);
+    RESPONDER(unanswered, false, refused(ssp_response_ack_received(&x), 4) && refused(ssp_response_nak_received(&x), 4));
+    RESPONDER(unanswered, false, refused(ssp_response_ack_nak_timeout(&x), 4) && says(ssp_response_connection_lost(&x), SSP_UNCHANGED));
     RESPONDER(retries, 1, framed(ask_response(&x), 52) && out[10] == 2); /* RETRANSMIT */
     RESPONDER(retries, 3, refused(ask_response(&x), 1));
-    SENT(retries, 1, says(ssp_response_nak(&x), SSP_RETRY) && x.retries == 2 && !x.unanswered);
-    SENT(retries, 0, says(ssp_response_timeout(&x), SSP_RETRY) && x.retries == 1);
-    SENT(retries, 0, says(ssp_response_cut(&x), SSP_RETRY) && x.retries == 1);
-    SENT(retries, 2, failed(ssp_response_nak(&x), 28, 0) && x.ended);
-    SENT(retries, 2, failed(ssp_response_timeout(&x), 29, 0));
-    SENT(retries, 2, failed(ssp_response_cut(&x), 30, 0));
-    SENT(transfer.limit, 0, says(ssp_response_nak(&x), SSP_RETRY)); /* once even with retries off */
-    SENT(transfer.limit, 1, says(ssp_response_nak(&x), SSP_RETRY) && framed(ask_response(&x), 52) && failed(ssp_response_nak(&x), 28, 0));
-    SENT(ended, true, refused(ask_response(&x), 2) && refused(ssp_response_ack(&x), 2) && refused(ssp_response_nak(&x), 2));
-    SENT(ended, true, refused(ssp_response_timeout(&x), 2) && refused(ssp_response_cut(&x), 2));
-    SENT(ended, true, refused(ssp_response_nexus_loss(&x), 2));
-    SENT(ended, false, failed(ssp_response_nexus_loss(&x), 31, 0) && x.ended && !x.unanswered);
+    SENT(retries, 1, says(ssp_response_nak_received(&x), SSP_RETRY) && x.retries == 2 && !x.unanswered);
+    SENT(retries, 0, says(ssp_response_ack_nak_timeout(&x), SSP_RETRY) && x.retries == 1);
+    SENT(retries, 0, says(ssp_response_connection_lost(&x), SSP_RETRY) && x.retries == 1);
+    SENT(retries, 2, failed(ssp_response_nak_received(&x), 28, 0) && x.ended);
+    SENT(retries, 2, failed(ssp_response_ack_nak_timeout(&x), 29, 0));
+    SENT(retries, 2, failed(ssp_response_connection_lost(&x), 30, 0));
+    SENT(transfer.limit, 0, says(ssp_response_nak_received(&x), SSP_RETRY)); /* once even with retries off */
+    SENT(transfer.limit, 1, says(ssp_response_nak_received(&x), SSP_RETRY) && framed(ask_response(&x), 52) && failed(ssp_response_nak_received(&x), 28, 0));
+    SENT(ended, true, refused(ask_response(&x), 2) && refused(ssp_response_ack_received(&x), 2) && refused(ssp_response_nak_received(&x), 2));
+    SENT(ended, true, refused(ssp_response_ack_nak_timeout(&x), 2) && refused(ssp_response_connection_lost(&x), 2));
+    SENT(ended, true, refused(ssp_response_nexus_lost(&x), 2));
+    SENT(ended, false, failed(ssp_response_nexus_lost(&x), 31, 0) && x.ended && !x.unanswered);
 }
 
 /* ---- ssp_header, ssp_xfer_rdy ---- */
@@ -72,10 +72,10 @@ static void header_fields(void) {
     TRY("two data bytes, R2", framed(ssp_frame_write(h, data, 2, out, sizeof out), 28) && out[11] == 2);
     TRY("two data bytes read", is(ssp_frame_read(&back, out, 28), SSP_PARSED, 0, 0, 24, 2) && same_header(h, back));
 
-    HEADER(kind, SSP_TYPE_XFER_RDY, out[0] == 5);
-    HEADER(kind, SSP_TYPE_COMMAND, out[0] == 6);
-    HEADER(kind, SSP_TYPE_RESPONSE, out[0] == 7);
-    HEADER(kind, SSP_TYPE_TASK, out[0] == 0x16);
+    HEADER(type, SSP_TYPE_XFER_RDY, out[0] == 5);
+    HEADER(type, SSP_TYPE_COMMAND, out[0] == 6);
+    HEADER(type, SSP_TYPE_RESPONSE, out[0] == 7);
+    HEADER(type, SSP_TYPE_TASK, out[0] == 0x16);
     HEADER(dest, 0x010203, be(1, 3) == 0x010203 && be(4, 4) == 0 && be(16, 4) == 0 && be(20, 4) == 0);
     HEADER(source, 0x040506, be(5, 3) == 0x040506 && be(1, 4) == 0 && be(16, 4) == 0 && be(20, 4) == 0);
     HEADER(retry, true, be(8, 4) == 0x0400);
@@ -89,9 +89,9 @@ static void header_fields(void) {
     HEADER(offset, 0x0B0C0D0E, be(20, 4) == 0x0B0C0D0E && be(16, 4) == 0);
 
     back = h;
-    h.kind = 2;
-    TRY("ssp_header.kind = 2", refused(ssp_frame_write(h, iu, 0, out, sizeof out), 1));
-    h.kind = SSP_TYPE_DATA;
+    h.type = 2;
+    TRY("ssp_header.type = 2", refused(ssp_frame_write(h, iu, 0, out, sizeof out), 1));
+    h.type = SSP_TYPE_DATA;
     h.dest = 0x1000000;
     TRY("ssp_header.dest = 0x1000000", refused(ssp_frame_write(h, iu, 0, out, sizeof out), 1));
     h.dest = 0;
@@ -196,7 +196,7 @@ static void writer_steps(void) {
     TRY("1,025 bytes: 1 of each step", steps_refuse(h, 1025, sizeof out, 1));
     TRY("1,025 bytes in none: 1 before 3", steps_refuse(h, 1025, 0, 1));
     other = h;
-    other.kind = 2;
+    other.type = 2;
     TRY("type 2: 1 of each step", steps_refuse(other, 4, sizeof out, 1) && steps_refuse(other, 4, 24, 1));
     other = h;
     other.dest = 0x1000000;

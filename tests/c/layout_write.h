@@ -1,7 +1,7 @@
 /* The records of a write at both ends: part of layout.c. */
 static void writer_fields(void) {
     {
-        ssp_writer w = writer(), want = w;
+        ssp_write_initiator w = writer(), want = w;
         TRY("a frame of a write", framed(ask_write(&w), 32) && be(18, 2) == 0x0102 && be(20, 4) == 16 && out[24] == data[16]);
         want.sender.next = 24;
         want.sender.unanswered = 3;
@@ -10,7 +10,7 @@ static void writer_fields(void) {
     }
     WRITER(sender.transfer.write, false, refused(ask_write(&w), 1));
     WRITER(sender.transfer.count, 47, refused(ask_write(&w), 1));
-    WRITER(sender.transfer.count, 47, framed(ssp_write_send_next_frame(&w, data, 47, out, sizeof out), 32));
+    WRITER(sender.transfer.count, 47, framed(ssp_write_initiator_next_frame(&w, data, 47, out, sizeof out), 32));
     WRITER(sender.transfer.size, 4, framed(ask_write(&w), 28));
     WRITER(sender.transfer.window, 2, says(ask_write(&w), SSP_WAIT));
     WRITER(sender.transfer.limit, 1, refused(ask_write(&w), 1));
@@ -18,28 +18,28 @@ static void writer_fields(void) {
     WRITER(sender.transfer.local, 0x010203, framed(ask_write(&w), 32) && be(5, 3) == 0x010203);
     WRITER(sender.transfer.remote, 0x040506, framed(ask_write(&w), 32) && be(1, 3) == 0x040506);
     WRITER(sender.transfer.tag, 0xBEEF, framed(ask_write(&w), 32) && be(16, 2) == 0xBEEF);
-    WRITER(sender.burst.base, 4, says(ssp_write_send_timeout(&w), SSP_RETRY) && w.sender.next == 4 && w.sender.balance == 4);
+    WRITER(sender.burst.base, 4, says(ssp_write_initiator_ack_nak_timeout(&w), SSP_RETRY) && w.sender.next == 4 && w.sender.balance == 4);
     WRITER(sender.burst.base, 9, refused(ask_write(&w), 1)); /* above the balance point */
     WRITER(sender.burst.end, 28, framed(ask_write(&w), 32) && failed(arrive_xfer_rdy(&w, 28, 4, true, false), 27, 6));
     WRITER(sender.burst.end, 23, refused(ask_write(&w), 1)); /* below the furthest offset */
     WRITER(sender.burst.tptt, 0xBEEF, framed(ask_write(&w), 32) && be(18, 2) == 0xBEEF);
-    WRITER(sender.burst.limit, 1, failed(ssp_write_send_timeout(&w), 29, 5));
-    WRITER(sender.burst.limit, 3, refused(ssp_write_send_timeout(&w), 1));
+    WRITER(sender.burst.limit, 1, failed(ssp_write_initiator_ack_nak_timeout(&w), 29, 5));
+    WRITER(sender.burst.limit, 3, refused(ssp_write_initiator_ack_nak_timeout(&w), 1));
     WRITER(sender.next, 20, framed(ask_write(&w), 28) && be(20, 4) == 20);
     WRITER(sender.balance, 17, refused(ask_write(&w), 1));
-    WRITER(sender.unanswered, 0, refused(ssp_write_send_ack(&w), 4) && refused(ssp_write_send_nak(&w), 4));
-    WRITER(sender.unanswered, 0, refused(ssp_write_send_timeout(&w), 4) && says(ssp_write_send_cut(&w), SSP_UNCHANGED));
-    WRITER(sender.unanswered, 4, refused(ssp_write_send_ack(&w), 1));
+    WRITER(sender.unanswered, 0, refused(ssp_write_initiator_ack_received(&w), 4) && refused(ssp_write_initiator_nak_received(&w), 4));
+    WRITER(sender.unanswered, 0, refused(ssp_write_initiator_ack_nak_timeout(&w), 4) && says(ssp_write_initiator_connection_lost(&w), SSP_UNCHANGED));
+    WRITER(sender.unanswered, 4, refused(ssp_write_initiator_ack_received(&w), 1));
     WRITER(sender.nak, true, says(ask_write(&w), SSP_WAIT));
-    WRITER(sender.nak, false, says(ssp_write_send_nak(&w), SSP_TAKEN) && w.sender.nak && w.sender.unanswered == 1);
+    WRITER(sender.nak, false, says(ssp_write_initiator_nak_received(&w), SSP_TAKEN) && w.sender.nak && w.sender.unanswered == 1);
     WRITER(sender.cdp, true, framed(ask_write(&w), 32) && out[10] == 1 && !w.sender.cdp);
-    WRITER(sender.retries, 2, failed(ssp_write_send_cut(&w), 30, 5));
-    WRITER(sender.retries, 3, refused(ssp_write_send_cut(&w), 1));
-    WRITER(sender.frames, MANY, failed(ssp_write_send_nexus_loss(&w), 31, MANY));
-    WRITER(sender.frames, TOO_MANY, refused(ssp_write_send_nexus_loss(&w), 1));
-    WRITER(sender.ended, true, refused(ask_write(&w), 2) && refused(ssp_write_send_ack(&w), 2) && refused(ssp_write_send_nak(&w), 2));
-    WRITER(sender.ended, true, refused(ssp_write_send_timeout(&w), 2) && refused(ssp_write_send_cut(&w), 2));
-    WRITER(sender.ended, true, refused(ssp_write_send_nexus_loss(&w), 2) && refused(arrive_xfer_rdy(&w, 24, 4, true, false), 2));
+    WRITER(sender.retries, 2, failed(ssp_write_initiator_connection_lost(&w), 30, 5));
+    WRITER(sender.retries, 3, refused(ssp_write_initiator_connection_lost(&w), 1));
+    WRITER(sender.frames, MANY, failed(ssp_write_initiator_nexus_lost(&w), 31, MANY));
+    WRITER(sender.frames, TOO_MANY, refused(ssp_write_initiator_nexus_lost(&w), 1));
+    WRITER(sender.ended, true, refused(ask_write(&w), 2) && refused(ssp_write_initiator_ack_received(&w), 2) && refused(ssp_write_initiator_nak_received(&w), 2));
+    WRITER(sender.ended, true, refused(ssp_write_initiator_ack_nak_timeout(&w), 2) && refused(ssp_write_initiator_connection_lost(&w), 2));
+    WRITER(sender.ended, true, refused(ssp_write_initiator_nexus_lost(&w), 2) && refused(arrive_xfer_rdy(&w, 24, 4, true, false), 2));
     WRITER(reached, 15, refused(ask_write(&w), 1)); /* below the next offset */
     WRITER(reached, 25, refused(ask_write(&w), 1)); /* above the end */
     WRITER(reached, 23, failed(arrive_xfer_rdy(&w, 24, 4, true, false), 27, 5) && w.sender.ended);
@@ -63,12 +63,12 @@ static void writer_fields(void) {
     WRITER(pending, false, failed(arrive_xfer_rdy(&w, 8, 6, true, false), 26, 5));
     WRITER(pending, false, failed(arrive_xfer_rdy(&w, 24, 23, true, false), 25, 5));
     TAKEN(sender.unanswered, 2, says(ask_write(&w), SSP_WAIT));
-    TAKEN(sender.unanswered, 2, says(ssp_write_send_ack(&w), SSP_TAKEN) && w.pending && w.sender.unanswered == 1);
-    TAKEN(sender.unanswered, 2, says(ssp_write_send_timeout(&w), SSP_TAKEN) && !w.pending);
-    TAKEN(sender.unanswered, 2, says(ssp_write_send_cut(&w), SSP_TAKEN) && !w.pending);
+    TAKEN(sender.unanswered, 2, says(ssp_write_initiator_ack_received(&w), SSP_TAKEN) && w.pending && w.sender.unanswered == 1);
+    TAKEN(sender.unanswered, 2, says(ssp_write_initiator_ack_nak_timeout(&w), SSP_TAKEN) && !w.pending);
+    TAKEN(sender.unanswered, 2, says(ssp_write_initiator_connection_lost(&w), SSP_TAKEN) && !w.pending);
     {
         /* the last answer starts the burst that was taken */
-        ssp_writer w = writer(), want;
+        ssp_write_initiator w = writer(), want;
         w.sender.unanswered = 1;
         w.pending = true;
         w.taken = burst(26, 44, 0x0304, 1);
@@ -76,8 +76,8 @@ static void writer_fields(void) {
         want.sender.transfer = w.sender.transfer;
         want.sender.burst = w.taken;
         want.sender.next = want.sender.balance = want.reached = 26;
-        TRY("ssp_writer.taken starts", says(ssp_write_send_nak(&w), SSP_TAKEN));
-        TRY("ssp_writer.taken starts: the record left", same_writer(w, want));
+        TRY("ssp_write_initiator.taken starts", says(ssp_write_initiator_nak_received(&w), SSP_TAKEN));
+        TRY("ssp_write_initiator.taken starts: the record left", same_writer(w, want));
     }
     TAKEN(taken.base, 28, framed(ask_write(&w), 32) && be(20, 4) == 28 && w.sender.burst.base == 28 && w.reached == 36);
     TAKEN(taken.base, 45, refused(ask_write(&w), 1)); /* above its end */
@@ -94,14 +94,14 @@ static void writer_fields(void) {
     TAKEN(taken.end, 25, refused(ask_write(&w), 1)); /* below its base */
     TAKEN(taken.end, 47, refused(ask_write(&w), 1)); /* above the byte count */
     TAKEN(taken.tptt, 0xBEEF, framed(ask_write(&w), 32) && be(18, 2) == 0xBEEF && w.sender.burst.tptt == 0xBEEF);
-    TAKEN(taken.limit, 0, framed(ask_write(&w), 32) && failed(ssp_write_send_timeout(&w), 29, 1));
-    TAKEN(taken.limit, 2, framed(ask_write(&w), 32) && says(ssp_write_send_timeout(&w), SSP_RETRY));
+    TAKEN(taken.limit, 0, framed(ask_write(&w), 32) && failed(ssp_write_initiator_ack_nak_timeout(&w), 29, 1));
+    TAKEN(taken.limit, 2, framed(ask_write(&w), 32) && says(ssp_write_initiator_ack_nak_timeout(&w), SSP_RETRY));
     TAKEN(taken.limit, 3, refused(ask_write(&w), 1)); /* above the transfer's */
     TAKEN(pending, false, framed(ask_write(&w), 32) && be(20, 4) == 16); /* the old burst is served */
     {
         /* before any burst there is none to repeat */
-        ssp_writer w;
-        TRY("a write", says(ssp_write_send_set_up(&w, transfer(true, HERE, THERE)), SSP_READY));
+        ssp_write_initiator w;
+        TRY("a write", says(ssp_write_initiator_set_up(&w, transfer(true, HERE, THERE)), SSP_READY));
         TRY("the first XFER_RDY, resent",
             says(arrive_xfer_rdy(&w, 0, 7, true, true), SSP_NEXT_BURST) && same_burst(w.sender.burst, burst(0, 7, 0x0506, 2)));
         TRY("it is resent once more", says(arrive_xfer_rdy(&w, 0, 7, true, true), SSP_REPEATED));
@@ -109,54 +109,54 @@ static void writer_fields(void) {
         TRY("so no frame goes out", refused(ask_write(&w), 2));
     }
     {
-        ssp_writer w = writer();
+        ssp_write_initiator w = writer();
         ssp_header h = header(SSP_TYPE_RESPONSE, HERE, THERE);
         ssp_answer f;
         h.tlr = arriving;
         iu[10] = 0x54; /* no data */
         f = ssp_frame_write(h, iu, 24, out, sizeof out);
         w.sender.frames = MANY;
-        TRY("a RESPONSE in a write", opened(ssp_write_send_frame(&w, out, f.len), SSP_RESPONSE, MANY, 24, 24, 0, iu[11], 0) && w.sender.ended);
+        TRY("a RESPONSE in a write", opened(ssp_write_initiator_frame_received(&w, out, f.len), SSP_RESPONSE, MANY, 24, 24, 0, iu[11], 0) && w.sender.ended);
         w = writer();
         w.sender.next = 24;
-        TRY("a burst delivered", says(ssp_write_send_ack(&w), SSP_TAKEN));
-        TRY("a burst delivered", is(ssp_write_send_ack(&w), SSP_DELIVERED, 0, 5, 0, 0) && !w.sender.ended);
+        TRY("a burst delivered", says(ssp_write_initiator_ack_received(&w), SSP_TAKEN));
+        TRY("a burst delivered", is(ssp_write_initiator_ack_received(&w), SSP_DELIVERED, 0, 5, 0, 0) && !w.sender.ended);
         TRY("the next burst", says(arrive_xfer_rdy(&w, 24, 4, true, false), SSP_NEXT_BURST) && w.sender.burst.end == 28);
     }
 }
 
-/* ---- ssp_target: a write at the target ---- */
+/* ---- ssp_write_target: a write at the target ---- */
 
 #define TARGET(field, value, ok)                               \
     do {                                                       \
-        ssp_target x = target();                               \
+        ssp_write_target x = target();                               \
         x.field = (value);                                     \
-        TRY("ssp_target." #field " = " #value ": " #ok, (ok)); \
+        TRY("ssp_write_target." #field " = " #value ": " #ok, (ok)); \
     } while (0)
 
 /* An XFER_RDY is to be sent again. */
 #define AGAIN(field, value, ok)                                                   \
     do {                                                                          \
-        ssp_target x = target();                                                  \
+        ssp_write_target x = target();                                                  \
         x.state = SSP_STATE_AGAIN;                                                \
         x.field = (value);                                                        \
-        TRY("ssp_target, to be sent again, " #field " = " #value ": " #ok, (ok)); \
+        TRY("ssp_write_target, to be sent again, " #field " = " #value ": " #ok, (ok)); \
     } while (0)
 
 /* An XFER_RDY is unanswered. */
 #define DUE(field, value, ok)                                               \
     do {                                                                    \
-        ssp_target x = target();                                            \
+        ssp_write_target x = target();                                            \
         x.state = SSP_STATE_UNANSWERED;                                     \
         x.field = (value);                                                  \
-        TRY("ssp_target, unanswered, " #field " = " #value ": " #ok, (ok)); \
+        TRY("ssp_write_target, unanswered, " #field " = " #value ": " #ok, (ok)); \
     } while (0)
 
 #define DATA_16(x) arrive_target(&(x), 0x0102, 16, false, 8, COUNT)
 
 static void target_fields(void) {
     {
-        ssp_target x = target(), want = x;
+        ssp_write_target x = target(), want = x;
         TRY("DATA of a write", says(DATA_16(x), SSP_STORED) && stored(16, 24));
         want.receiver.expected = 24;
         want.stored = true;
@@ -183,29 +183,29 @@ static void target_fields(void) {
     TARGET(receiver.filled, 31, failed(arrive_target(&x, 0x0102, 32, true, 8, COUNT), 20, 0));
     TARGET(receiver.filled, 40, says(DATA_16(x), SSP_DISCARDED) && !x.receiver.waiting);
     TARGET(receiver.waiting, true, says(DATA_16(x), SSP_DISCARDED));
-    TARGET(receiver.ended, true, refused(DATA_16(x), 2) && refused(ask_target(&x), 2) && refused(ssp_write_receive_ack(&x), 2));
-    TARGET(receiver.ended, true, refused(ssp_write_receive_nak(&x), 2) && refused(ssp_write_receive_timeout(&x), 2));
-    TARGET(receiver.ended, true, refused(ssp_write_receive_cut(&x), 2) && refused(ssp_write_receive_nexus_loss(&x), 2));
-    TARGET(receiver.ended, false, failed(ssp_write_receive_nexus_loss(&x), 31, 0) && x.receiver.ended);
+    TARGET(receiver.ended, true, refused(DATA_16(x), 2) && refused(ask_target(&x), 2) && refused(ssp_write_target_ack_received(&x), 2));
+    TARGET(receiver.ended, true, refused(ssp_write_target_nak_received(&x), 2) && refused(ssp_write_target_ack_nak_timeout(&x), 2));
+    TARGET(receiver.ended, true, refused(ssp_write_target_connection_lost(&x), 2) && refused(ssp_write_target_nexus_lost(&x), 2));
+    TARGET(receiver.ended, false, failed(ssp_write_target_nexus_lost(&x), 31, 0) && x.receiver.ended);
 
     TARGET(state, SSP_STATE_NONE, refused(DATA_16(x), 8));
     TARGET(state, SSP_STATE_UNANSWERED, says(DATA_16(x), SSP_DISCARDED) && stored(0, 0));
     TARGET(state, SSP_STATE_UNANSWERED, says(ask_target(&x), SSP_WAIT));
     TARGET(state, SSP_STATE_AGAIN, says(DATA_16(x), SSP_DISCARDED));
-    TARGET(state, SSP_STATE_READY, says(ask_target(&x), SSP_WAIT) && refused(ssp_write_receive_ack(&x), 4));
-    TARGET(state, SSP_STATE_READY, refused(ssp_write_receive_nak(&x), 4) && refused(ssp_write_receive_timeout(&x), 4));
-    TARGET(state, SSP_STATE_READY, says(ssp_write_receive_cut(&x), SSP_UNCHANGED));
+    TARGET(state, SSP_STATE_READY, says(ask_target(&x), SSP_WAIT) && refused(ssp_write_target_ack_received(&x), 4));
+    TARGET(state, SSP_STATE_READY, refused(ssp_write_target_nak_received(&x), 4) && refused(ssp_write_target_ack_nak_timeout(&x), 4));
+    TARGET(state, SSP_STATE_READY, says(ssp_write_target_connection_lost(&x), SSP_UNCHANGED));
     TARGET(state, 4, refused(ask_target(&x), 1));
     {
-        ssp_target x = target(), want = x;
+        ssp_write_target x = target(), want = x;
         x.state = SSP_STATE_UNANSWERED;
         x.receiver.waiting = true;
-        TRY("the XFER_RDY's ACK", says(ssp_write_receive_ack(&x), SSP_ACKNOWLEDGED));
+        TRY("the XFER_RDY's ACK", says(ssp_write_target_ack_received(&x), SSP_ACKNOWLEDGED));
         want.receiver.expected = want.receiver.filled = 8;
         TRY("the XFER_RDY's ACK: the record left", same_target(x, want));
     }
     {
-        ssp_target x = target(), want = x;
+        ssp_write_target x = target(), want = x;
         memset(out, 0xEE, sizeof out);
         x.state = SSP_STATE_AGAIN;
         TRY("an XFER_RDY sent again", framed(ask_target(&x), 36) && out[0] == SSP_TYPE_XFER_RDY && out[10] == 6 && out[36] == 0xEE);
@@ -216,7 +216,7 @@ static void target_fields(void) {
         TRY("an XFER_RDY sent again: the record left", same_target(x, want));
     }
     {
-        ssp_target x = target(), want = x;
+        ssp_write_target x = target(), want = x;
         x.receiver.expected = x.receiver.filled = x.receiver.end = 32;
         TRY("the next XFER_RDY", framed(ask_target(&x), 36) && out[10] == 4 && be(24, 4) == 32 && be(28, 4) == 10);
         want.receiver.base = want.receiver.expected = want.receiver.filled = 32;
@@ -229,12 +229,12 @@ static void target_fields(void) {
         x = target();
         x.receiver.expected = x.receiver.filled = x.receiver.end = 32;
         x.receiver.transfer.burst = 6;
-        TRY("ssp_target.receiver.transfer.burst = 6", framed(ask_target(&x), 36) && be(28, 4) == 6);
+        TRY("ssp_write_target.receiver.transfer.burst = 6", framed(ask_target(&x), 36) && be(28, 4) == 6);
         x = target();
         x.state = SSP_STATE_AGAIN;
         x.retries = 0;
         x.receiver.transfer.limit = 0;
-        TRY("ssp_target.receiver.transfer.limit = 0", framed(ask_target(&x), 36) && out[10] == 2);
+        TRY("ssp_write_target.receiver.transfer.limit = 0", framed(ask_target(&x), 36) && out[10] == 2);
     }
     AGAIN(receiver.transfer.local, 0x010203, framed(ask_target(&x), 36) && be(5, 3) == 0x010203);
     AGAIN(receiver.transfer.remote, 0x040506, framed(ask_target(&x), 36) && be(1, 3) == 0x040506);
@@ -243,43 +243,43 @@ static void target_fields(void) {
     AGAIN(receiver.end, 44, framed(ask_target(&x), 36) && be(24, 4) == 8 && be(28, 4) == 36);
     TARGET(tptt, 0x0103, refused(DATA_16(x), 8));
     TARGET(tptt, 0xBEEF, says(arrive_target(&x, 0xBEEF, 16, false, 8, COUNT), SSP_STORED) && x.under == 0xBEEF);
-    DUE(retries, 2, failed(ssp_write_receive_nak(&x), 28, 0));
-    DUE(retries, 2, failed(ssp_write_receive_timeout(&x), 29, 0));
-    DUE(retries, 2, failed(ssp_write_receive_cut(&x), 30, 0));
-    DUE(retries, 1, says(ssp_write_receive_nak(&x), SSP_RETRY) && x.retries == 2 && x.state == SSP_STATE_AGAIN);
-    DUE(retries, 0, says(ssp_write_receive_timeout(&x), SSP_RETRY) && x.retries == 1 && x.state == SSP_STATE_AGAIN);
-    DUE(retries, 0, says(ssp_write_receive_cut(&x), SSP_RETRY) && x.retries == 1);
-    DUE(retries, 3, refused(ssp_write_receive_nak(&x), 1));
+    DUE(retries, 2, failed(ssp_write_target_nak_received(&x), 28, 0));
+    DUE(retries, 2, failed(ssp_write_target_ack_nak_timeout(&x), 29, 0));
+    DUE(retries, 2, failed(ssp_write_target_connection_lost(&x), 30, 0));
+    DUE(retries, 1, says(ssp_write_target_nak_received(&x), SSP_RETRY) && x.retries == 2 && x.state == SSP_STATE_AGAIN);
+    DUE(retries, 0, says(ssp_write_target_ack_nak_timeout(&x), SSP_RETRY) && x.retries == 1 && x.state == SSP_STATE_AGAIN);
+    DUE(retries, 0, says(ssp_write_target_connection_lost(&x), SSP_RETRY) && x.retries == 1);
+    DUE(retries, 3, refused(ssp_write_target_nak_received(&x), 1));
     /* tags in use are those since the last store, and the one of that store: the lowest other is handed out */
     AGAIN(stored, false, framed(ask_target(&x), 36) && be(18, 2) == 3 && x.tptt == 3);
     AGAIN(stored, true, framed(ask_target(&x), 36) && be(18, 2) == 4 && x.tptt == 4);
     AGAIN(since, 5, framed(ask_target(&x), 36) && be(18, 2) == 5 && x.since == 6);
     AGAIN(since, 17, refused(ask_target(&x), 1));
     {
-        ssp_target x = target();
+        ssp_write_target x = target();
         x.state = SSP_STATE_AGAIN;
         x.stored = true;
         x.under = 4;
-        TRY("ssp_target.under = 4", framed(ask_target(&x), 36) && x.tptt == 3 && x.under == 4);
+        TRY("ssp_write_target.under = 4", framed(ask_target(&x), 36) && x.tptt == 3 && x.under == 4);
         x.state = SSP_STATE_AGAIN;
-        TRY("ssp_target.under = 4", framed(ask_target(&x), 36) && x.tptt == 5 && x.since == 5);
+        TRY("ssp_write_target.under = 4", framed(ask_target(&x), 36) && x.tptt == 5 && x.since == 5);
     }
 }
 
-/* ---- ssp_responder ---- */
+/* ---- ssp_response ---- */
 
 #define RESPONDER(field, value, ok)                               \
     do {                                                          \
-        ssp_responder x = responder();                            \
+        ssp_response x = responder();                            \
         x.field = (value);                                        \
-        TRY("ssp_responder." #field " = " #value ": " #ok, (ok)); \
+        TRY("ssp_response." #field " = " #value ": " #ok, (ok)); \
     } while (0)
 
 /* Its answer is due. */
 #define SENT(field, value, ok)                                                 \
     do {                                                                       \
-        ssp_responder x = responder();                                         \
+        ssp_response x = responder();                                         \
         x.unanswered = true;                                                   \
         x.field = (value);                                                     \
-        TRY("ssp_responder, unanswered, " #field " = " #value ": " #ok, (ok)); \
+        TRY("ssp_response, unanswered, " #field " = " #value ": " #ok, (ok)); \
     } while (0)

@@ -1,6 +1,6 @@
 // What every arriving frame is tested for, once for all roles: 5, 6, 7, 8.
 ghost use mathlib.Core.Path.{_≡_};
-ghost use Rattle.arrival.specs.Accept.{kindOf, isTaken, accepted, screenOf, acceptOf};
+ghost use Rattle.arrival.specs.Accept.{classOf, isTaken, accepted, screenOf, acceptOf};
 use frame::Decoded;
 use frame::Header;
 use frame::Parsed;
@@ -16,7 +16,7 @@ pub enum Role {
 }
 
 // What a role takes a frame for.
-pub enum Kind {
+pub enum Class {
     Data,
     XferRdy,
     Response,
@@ -26,7 +26,7 @@ pub enum Kind {
 
 // A frame that has passed 5 to 8: the IU is len bytes from start.
 pub struct Arrived {
-    pub kind: Kind,
+    pub class: Class,
     pub header: Header,
     pub start: usize,
     pub len: usize,
@@ -38,46 +38,46 @@ pub enum Accepted {
 }
 
 // One match on the type byte, by role; every other number is refused.
-fn kind_of(role: Role, kind: u8) -> Kind
-    ensures { λ r. ⌜ r ≡ kindOf role kind ⌝ }
+fn class_of(role: Role, frametype: u8) -> Class
+    ensures { λ r. ⌜ r ≡ classOf role frametype ⌝ }
 {
     match role {
-        Role::ReadInitiator => match kind {
-            frame::DATA => Kind::Data,
-            frame::XFER_RDY => Kind::XferRdy,
-            frame::RESPONSE => Kind::Response,
-            _ => Kind::Other,
+        Role::ReadInitiator => match frametype {
+            frame::DATA => Class::Data,
+            frame::XFER_RDY => Class::XferRdy,
+            frame::RESPONSE => Class::Response,
+            _ => Class::Other,
         },
-        Role::WriteInitiator => match kind {
-            frame::XFER_RDY => Kind::XferRdy,
-            frame::RESPONSE => Kind::Response,
-            _ => Kind::Other,
+        Role::WriteInitiator => match frametype {
+            frame::XFER_RDY => Class::XferRdy,
+            frame::RESPONSE => Class::Response,
+            _ => Class::Other,
         },
-        Role::WriteTarget => match kind {
-            frame::DATA => Kind::Data,
-            _ => Kind::Other,
+        Role::WriteTarget => match frametype {
+            frame::DATA => Class::Data,
+            _ => Class::Other,
         },
-        Role::ReadTarget => Kind::Other,
+        Role::ReadTarget => Class::Other,
     }
 }
 
-fn is_taken(kind: Kind) -> bool
-    ensures { λ r. ⌜ r ≡ isTaken kind ⌝ }
+fn is_taken(class: Class) -> bool
+    ensures { λ r. ⌜ r ≡ isTaken class ⌝ }
 {
-    match kind {
-        Kind::Data => true,
-        Kind::XferRdy => true,
-        Kind::Response => true,
-        Kind::Other => false,
+    match class {
+        Class::Data => true,
+        Class::XferRdy => true,
+        Class::Response => true,
+        Class::Other => false,
     }
 }
 
 // 6, 7, 8.
-fn screen(t: Transfer, kind: Kind, p: Parsed) -> Accepted
-    ensures { λ r. ⌜ accepted r ≡ screenOf t kind p ⌝ }
+fn screen(t: Transfer, class: Class, p: Parsed) -> Accepted
+    ensures { λ r. ⌜ accepted r ≡ screenOf t class p ⌝ }
 {
     let h = p.header;
-    if !is_taken(kind) {
+    if !is_taken(class) {
         return Accepted::Refused(Refusal::UnexpectedFrameType);
     }
     if (h.dest != t.local) | (h.source != t.remote) {
@@ -87,7 +87,7 @@ fn screen(t: Transfer, kind: Kind, p: Parsed) -> Accepted
         return Accepted::Refused(Refusal::UnknownTag);
     }
     Accepted::Frame(Arrived {
-        kind: kind,
+        class: class,
         header: h,
         start: p.start,
         len: p.len,
@@ -102,7 +102,7 @@ pub fn accept(role: Role, t: Transfer, bytes: &[u8]) -> Accepted
         Decoded::Refused(why) => Accepted::Refused(why),
         Decoded::Frame(p) => {
             let h = p.header;
-            screen(t, kind_of(role, h.kind), p)
+            screen(t, class_of(role, h.frametype), p)
         }
     }
 }

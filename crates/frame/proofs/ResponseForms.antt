@@ -10,7 +10,7 @@ use lib.ListN.{length, getD, take, drop, length-drop, take-append-drop}
 use lib.Seq.{take-all, take-length, take-suc}
 use borrow.Author.Tests.{eq-eqb, le-leb, le-ltb, ltb-true, ltb-false, eqb-true, leb-true}
 use Rattle.status.specs.Pick.{pick}
-use Rattle.status.specs.Outcome.{Outcome}
+use Rattle.status.specs.Result.{Result}
 use Rattle.status.specs.declared.answer.Opened.{Opened}
 use Rattle.status.proofs.Choose.{in-true, in-false, and-true}
 use Rattle.frame.specs.Format.{digits}
@@ -28,10 +28,10 @@ use Rattle.frame.proofs.Place.{empty}
 kind-back : (bits k : ℕ) → k < 4 → (bits * 4 + k) % 4 ≡ k
 kind-back bits k l = omega arith
 
-met : (t : Bool) (iu : List ℕ) (k s n : ℕ) → t ≡ true → kindIn iu ≡ k → statusIn iu ≡ s → Outcome.value (record { kind = k; status = s; sense = n }) ≡ needing t iu n
-met t iu k s n e a b = in-true t _ _ _ e (λ i. Outcome.value (record { kind = sym a i; status = sym b i; sense = n }))
+met : (t : Bool) (iu : List ℕ) (k s n : ℕ) → t ≡ true → kindIn iu ≡ k → statusIn iu ≡ s → Result.value (record { kind = k; status = s; sense = n }) ≡ needing t iu n
+met t iu k s n e a b = in-true t _ _ _ e (λ i. Result.value (record { kind = sym a i; status = sym b i; sense = n }))
 
-reads : (iu : List ℕ) (o : Opened) → 24 ≤ length iu → Outcome.value o ≡ byKind iu → responseIuOf iu ≡ Outcome.value o
+reads : (iu : List ℕ) (o : Opened) → 24 ≤ length iu → Result.value o ≡ byKind iu → responseIuOf iu ≡ Result.value o
 unfolding responseIuOf
 reads iu o l e = sym (in-false _ _ _ _ (le-ltb _ _ l) e)
 
@@ -54,7 +54,7 @@ opens iu k s d (Form.response-data a bits status n r l) =
 opens iu k s d (Form.sense-data a bits status n r lo hi) =
     let e = kind-back bits 2 (omega arith) in
     let f : senseLength iu ≡ length r = field-digits 4 (length r) [] (omega arith) in
-    let x : Outcome.value (record { kind = 2; status = status; sense = length r }) ≡ needing (senseFits iu) iu (senseLength iu) =
+    let x : Result.value (record { kind = 2; status = status; sense = length r }) ≡ needing (senseFits iu) iu (senseLength iu) =
     rw f (met _ iu 2 status (length r) (sense-met iu (length r) f lo hi (omega arith)) e refl) in
     (reads iu _ (omega arith) (by.sense-data iu _ e x), ap (λ (x : Lent). x .bytes) (whole-part iu 24 (length r) (omega arith)) ∙ take-length r)
 
@@ -115,7 +115,7 @@ module _ (iu : List ℕ) (small : Bytes iu) (least : 24 ≤ length iu) where
   unfolding byKind pick
   by-kind = go (eqb (kindIn iu) 0) (eqb (kindIn iu) 1) (eqb (kindIn iu) 2) refl refl refl
     where
-      go : (t u v : Bool) → eqb (kindIn iu) 0 ≡ t → eqb (kindIn iu) 1 ≡ u → eqb (kindIn iu) 2 ≡ v → Read iu (pick t (needing (eqb (length iu) 24) iu 0) (pick u (needing (responseFits iu) iu 0) (pick v (needing (senseFits iu) iu (senseLength iu)) (Outcome.number 34))))
+      go : (t u v : Bool) → eqb (kindIn iu) 0 ≡ t → eqb (kindIn iu) 1 ≡ u → eqb (kindIn iu) 2 ≡ v → Read iu (pick t (needing (eqb (length iu) 24) iu 0) (pick u (needing (responseFits iu) iu 0) (pick v (needing (senseFits iu) iu (senseLength iu)) (Result.number 34))))
       go true u v a b c = needed (eqb (length iu) 24) 0 (λ l. none (eqb-true _ _ a) (eqb-true _ _ l))
       go false true v a b c = needed (responseFits iu) 0 (response (eqb-true _ _ b))
       go false false true a b c = needed (senseFits iu) (senseLength iu) (sense (eqb-true _ _ c))
@@ -125,6 +125,6 @@ pub no-other : NoOther
 unfolding responseIuOf pick
 no-other iu small = go (ltb (length iu) 24) refl
   where
-    go : (t : Bool) → ltb (length iu) 24 ≡ t → Read iu (pick t (Outcome.number 32) (byKind iu))
+    go : (t : Bool) → ltb (length iu) 24 ≡ t → Read iu (pick t (Result.number 32) (byKind iu))
     go true e = Read.short (ltb-true _ _ e)
     go false e = by-kind iu small (ltb-false _ _ e)

@@ -11,7 +11,7 @@ use lib.ListN.{length, getD, take, drop, replicate, length-append, length-replic
 use lib.Seq.{take-at, getD-take, getD-drop, getD-append-add}
 use borrow.Author.Tests.{le-leb, eq-eqb, lt-ltb, ltb-true, leb-true}
 use Rattle.status.specs.Pick.{pick}
-use Rattle.status.specs.Outcome.{Outcome}
+use Rattle.status.specs.Result.{Result}
 use Rattle.status.proofs.Choose.{each, in-true}
 use Rattle.status.proofs.Opened.{differ}
 use Rattle.frame.specs.Format.{isType, field, flagsOf, fillOf, headerBytes, dataBytes, encode}
@@ -29,7 +29,7 @@ use Rattle.frame.proofs.Writer.{encode-length}
 
 -- what a writable header and IU give, all bounds at once
 pub record Writable (h : Header) (n : ℕ) : Type 0 where
-  pub kind : isType (h .kind) ≡ true
+  pub frametype : isType (h .frametype) ≡ true
   pub dest : h .dest < 2 ^ 24
   pub source : h .source < 2 ^ 24
   pub tlr : h .flags .tlr < 4
@@ -38,7 +38,7 @@ pub record Writable (h : Header) (n : ℕ) : Type 0 where
 pub writable-gives : (h : Header) (n : ℕ) → writable h n ≡ true → Writable h n
 writable-gives h n e =
     let t = each (request h n) e in
-    record { kind = t .0; dest = omega (arith, ltb-true); source = omega (arith, ltb-true); tlr = omega (arith, ltb-true); most = omega (arith, leb-true) }
+    record { frametype = t .0; dest = omega (arith, ltb-true); source = omega (arith, ltb-true); tlr = omega (arith, ltb-true); most = omega (arith, leb-true) }
 
 module _ (h : Header) (iu : List ℕ) where
   fill-back : fillCount (encode h iu) ≡ fillOf (length iu)
@@ -52,7 +52,7 @@ module _ (h : Header) (iu : List ℕ) where
   unfolding headerIn encode headerBytes
   header-back r w i =
       record {
-        kind = h .kind;
+        frametype = h .frametype;
         dest = field-digits 3 (h .dest) [] (w .dest) i;
         source = field-digits 3 (h .source) [] (w .source) i;
         flags = flags-back (h .flags) (w .tlr) i;
@@ -61,9 +61,9 @@ module _ (h : Header) (iu : List ℕ) where
         offset = field-digits 4 (h .offset) [] (r .offset) i;
       }
 
-  kind-back : getD (encode h iu) 0 0 ≡ h .kind
+  frametype-back : getD (encode h iu) 0 0 ≡ h .frametype
   unfolding encode headerBytes
-  kind-back = refl
+  frametype-back = refl
 
   pub iu-back : iuOf (encode h iu) ≡ iu
   unfolding encode dataBytes headerBytes
@@ -81,22 +81,22 @@ unfolding decode
 comes-back h iu r e =
     let w = writable-gives h (length iu) e in
     let b = encode h iu in
-    let answer : Outcome.value (record { header = h; start = 24; len = length iu }) ≡ Outcome.value (parsed b) =
-    λ i. Outcome.value (record { header = sym (header-back h iu r w) i; start = 24; len = sym (iu-length-back h iu) i }) in
-    (sym (in-true _ _ _ _ (well-formed-back h iu w) (in-true _ _ _ _ (ap isType (kind-back h iu) ∙ w .kind) answer)), iu-back h iu)
+    let answer : Result.value (record { header = h; start = 24; len = length iu }) ≡ Result.value (parsed b) =
+    λ i. Result.value (record { header = sym (header-back h iu r w) i; start = 24; len = sym (iu-length-back h iu) i }) in
+    (sym (in-true _ _ _ _ (well-formed-back h iu w) (in-true _ _ _ _ (ap isType (frametype-back h iu) ∙ w .frametype) answer)), iu-back h iu)
 
 -- a frame that the reader takes
 pub record Accepted (b : List ℕ) (p : Parsed) : Type 0 where
   pub form : wellFormed b ≡ true
-  pub kind : isType (getD b 0 0) ≡ true
+  pub frametype : isType (getD b 0 0) ≡ true
   pub is : parsed b ≡ p
 
-pub accepted : (b : List ℕ) (p : Parsed) → decode b ≡ Outcome.value p → Accepted b p
+pub accepted : (b : List ℕ) (p : Parsed) → decode b ≡ Result.value p → Accepted b p
 unfolding decode pick
 accepted b p e = go (wellFormed b) (isType (getD b 0 0)) refl refl e
   where
-    go : (t u : Bool) → wellFormed b ≡ t → isType (getD b 0 0) ≡ u → pick t (pick u (Outcome.value (parsed b)) (Outcome.number 6)) (Outcome.number 5) ≡ Outcome.value p → Accepted b p
-    go true true f k e = record { form = f; kind = k; is = cc }
+    go : (t u : Bool) → wellFormed b ≡ t → isType (getD b 0 0) ≡ u → pick t (pick u (Result.value (parsed b)) (Result.number 6)) (Result.number 5) ≡ Result.value p → Accepted b p
+    go true true f k e = record { form = f; frametype = k; is = cc }
     go true false f k e = differ (cc)
     go false u f k e = differ (cc)
 
@@ -136,7 +136,7 @@ written-again b p small e =
     let a = accepted b p e in
     let f = formed b (a .form) in
     subst (λ (q : Parsed). (writable (q .header) (q .len) ≡ true) × (encode (q .header) (take (q .len) (drop (q .start) b)) ≡ cleared b)) (a .is)
-    (writable-again b small f (a .kind), frame-again b small f)
+    (writable-again b small f (a .frametype), frame-again b small f)
 
 -- P at each number below n
 All : ℕ → (ℕ → Type 0) → Type 0
@@ -194,4 +194,4 @@ differs-at-most b p small e =
 pub xfer-rdy-comes-back : XferRdyComesBack
 unfolding xferRdyOf xferRdyBytes pick
 xfer-rdy-comes-back x o l i =
-    Outcome.value (record { offset = field-digits 4 (x .offset) [] o i; len = field-digits 4 (x .len) [] l i })
+    Result.value (record { offset = field-digits 4 (x .offset) [] o i; len = field-digits 4 (x .len) [] l i })

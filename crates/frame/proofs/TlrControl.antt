@@ -9,7 +9,7 @@ use lib.Dec.{leb, eqb}
 use lib.ListN.{length, getD, take, drop, length-drop}
 use lib.Seq.{ext-getD, getD-drop}
 use Rattle.status.specs.Pick.{pick, all}
-use Rattle.status.specs.Outcome.{Outcome}
+use Rattle.status.specs.Result.{Result}
 use Rattle.frame.specs.Format.{isType, field, flagByte, flagsOf, headerBytes, encode}
 use Rattle.frame.specs.Read.{fillCount, headerIn, wellFormed, iuLength, iuOf, parsed, decode}
 use Rattle.frame.specs.TlrControl.{SameButTlr, tlr≔, WrittenSo}
@@ -21,9 +21,9 @@ use Rattle.frame.proofs.Writer.{encode-length}
 abbrev pub parsed≔ : ℕ → Parsed → Parsed
 parsed≔ n p = record { header = tlr≔ n (p .header); start = p .start; len = p .len }
 
-abbrev pub read≔ : ℕ → Outcome Parsed → Outcome Parsed
-read≔ n (Outcome.number k) = Outcome.number k
-read≔ n (Outcome.value p) = Outcome.value (parsed≔ n p)
+abbrev pub read≔ : ℕ → Result Parsed → Result Parsed
+read≔ n (Result.number k) = Result.number k
+read≔ n (Result.value p) = Result.value (parsed≔ n p)
 
 -- a field in which all bytes are the same
 field-same : (f g : List ℕ) (i n : ℕ) → ((k : ℕ) → k < n → getD f (i + k) 0 ≡ getD g (i + k) 0) → field f i n ≡ field g i n
@@ -57,7 +57,7 @@ module _ (f g : List ℕ) (s : SameButTlr f g) where
       let retransmit : getD f 10 0 / 2 % 2 ≡ getD g 10 0 / 2 % 2 = omega arith in
       let cdp : getD f 10 0 % 2 ≡ getD g 10 0 % 2 = omega arith in
       λ i. record {
-        kind = s .others 0 (λ e. omega arith) i;
+        frametype = s .others 0 (λ e. omega arith) i;
         dest = field-same f g 1 3 (λ k l. s .others (1 + k) (λ e. omega arith)) i;
         source = field-same f g 5 3 (λ k l. s .others (5 + k) (λ e. omega arith)) i;
         flags = record { tlr = getD g 10 0 / 8 % 4; retry = eqb (retry i) 1; retransmit = eqb (retransmit i) 1; cdp = eqb (cdp i) 1 };
@@ -68,12 +68,12 @@ module _ (f g : List ℕ) (s : SameButTlr f g) where
 
   pub read-alike : decode g ≡ read≔ (headerIn g .flags .tlr) (decode f)
   unfolding decode pick
-  read-alike = sym (go (wellFormed f) (isType (getD f 0 0)) ∙ λ i. pick (form-same i) (pick (isType (s .others 0 (λ e. omega arith) i)) (Outcome.value (record { header = header-same i; start = 24; len = length-same i })) (Outcome.number 6)) (Outcome.number 5))
+  read-alike = sym (go (wellFormed f) (isType (getD f 0 0)) ∙ λ i. pick (form-same i) (pick (isType (s .others 0 (λ e. omega arith) i)) (Result.value (record { header = header-same i; start = 24; len = length-same i })) (Result.number 6)) (Result.number 5))
     where
       n : ℕ
       n = headerIn g .flags .tlr
 
-      go : (t u : Bool) → read≔ n (pick t (pick u (Outcome.value (parsed f)) (Outcome.number 6)) (Outcome.number 5)) ≡ pick t (pick u (Outcome.value (parsed≔ n (parsed f))) (Outcome.number 6)) (Outcome.number 5)
+      go : (t u : Bool) → read≔ n (pick t (pick u (Result.value (parsed f)) (Result.number 6)) (Result.number 5)) ≡ pick t (pick u (Result.value (parsed≔ n (parsed f))) (Result.number 6)) (Result.number 5)
       go true true = refl
       go true false = refl
       go false u = refl

@@ -7,7 +7,7 @@ use native.Mathlib.Omega.{arith}
 use lib.Dec.{leb}
 use lib.ListN.{length, take, drop}
 use Rattle.status.specs.Pick.{pick}
-use Rattle.status.specs.Outcome.{Outcome}
+use Rattle.status.specs.Result.{Result}
 use Rattle.frame.specs.Format.{fillOf, headerBytes, dataBytes, encode}
 use Rattle.frame.specs.Write.{writable, writeAnswer, placed, put}
 use Rattle.frame.specs.TwoSteps.{putAt, putData, putHeader, AreTheWriter, TwiceIsOnce, LeaveTheAnswer, LeaveTheRest, OnlyTheLength, OnlyWhetherTaken}
@@ -16,19 +16,19 @@ use Rattle.frame.proofs.Place.{at-front, placed-before, placed-behind, 
 use Rattle.frame.proofs.Writer.{header-length, encode-parts, encode-length, by-answer}
 
 -- the answer goes by whether the writer takes header and IU, the frame's length and the output buffer's
-abbrev answerOf : Bool → ℕ → ℕ → Outcome ℕ
-answerOf w n room = pick w (pick (leb n room) (Outcome.value n) (Outcome.number 3)) (Outcome.number 1)
+abbrev answerOf : Bool → ℕ → ℕ → Result ℕ
+answerOf w n room = pick w (pick (leb n room) (Result.value n) (Result.number 3)) (Result.number 1)
 
 by-length : (h : Header) (iu out : List ℕ) → writeAnswer h iu out ≡ answerOf (writable h (length iu)) (24 + length iu + fillOf (length iu)) (length out)
 by-length h iu out = ap (λ (n : ℕ). answerOf (writable h (length iu)) n (length out)) (encode-length h iu)
 
 -- what a step's code shows at each answer
-pub step-shows : (h : Header) (iu out : List ℕ) (i : ℕ) (s : List ℕ) (a : Outcome ℕ) (x : List ℕ) → a ≡ writeAnswer h iu out → x ≡ putAt i a s out → (a ≡ writeAnswer h iu out) × (x ≡ putAt i (writeAnswer h iu out) s out)
-step-shows h iu out i s a x e p = (e, p ∙ ap (λ (b : Outcome ℕ). putAt i b s out) e)
+pub step-shows : (h : Header) (iu out : List ℕ) (i : ℕ) (s : List ℕ) (a : Result ℕ) (x : List ℕ) → a ≡ writeAnswer h iu out → x ≡ putAt i a s out → (a ≡ writeAnswer h iu out) × (x ≡ putAt i (writeAnswer h iu out) s out)
+step-shows h iu out i s a x e p = (e, p ∙ ap (λ (b : Result ℕ). putAt i b s out) e)
 
 -- either step: the bytes s at place i, within the frame
 module _ (h : Header) (iu out : List ℕ) (i : ℕ) (s : List ℕ) (within : i + length s ≤ length (encode h iu)) where
-  abbrev answer : Outcome ℕ
+  abbrev answer : Result ℕ
   answer = writeAnswer h iu out
 
   abbrev left : List ℕ
@@ -42,7 +42,7 @@ module _ (h : Header) (iu out : List ℕ) (i : ℕ) (s : List ℕ) (within : i +
 
   -- a step t after it answers alike
   next : (j : ℕ) (t : List ℕ) → putAt j (writeAnswer h iu left) t left ≡ putAt j answer t left
-  next j t = ap (λ (a : Outcome ℕ). putAt j a t left) alike
+  next j t = ap (λ (a : Result ℕ). putAt j a t left) alike
 
   twice : putAt i (writeAnswer h iu left) s left ≡ left
   twice = next i s ∙ by-answer h iu out (λ a. putAt i a s (putAt i a s out) ≡ putAt i a s out) (λ fits. placed-twice out s i (omega arith)) (λ n. refl)
@@ -89,16 +89,16 @@ leave-the-rest h iu out = (before h iu out 24 (dataBytes iu) (data-within h iu),
 pub only-the-length : OnlyTheLength
 only-the-length h iu ju out e =
     let a : writeAnswer h iu out ≡ writeAnswer h ju out = by-length h iu out ∙ ap (λ (n : ℕ). answerOf (writable h n) (24 + n + fillOf n) (length out)) e ∙ sym (by-length h ju out) in
-    (a, ap (λ (o : Outcome ℕ). putAt 0 o (header h iu) out) a ∙ ap (λ (n : ℕ). putAt 0 (writeAnswer h ju out) (headerBytes h (fillOf n)) out) e)
+    (a, ap (λ (o : Result ℕ). putAt 0 o (header h iu) out) a ∙ ap (λ (n : ℕ). putAt 0 (writeAnswer h ju out) (headerBytes h (fillOf n)) out) e)
 
 pub only-whether-taken : OnlyWhetherTaken
 only-whether-taken h g iu out w =
     let a : writeAnswer h iu out ≡ writeAnswer g iu out = by-length h iu out ∙ ap (λ (t : Bool). answerOf t (24 + length iu + fillOf (length iu)) (length out)) w ∙ sym (by-length g iu out) in
-    (a, ap (λ (o : Outcome ℕ). putAt 24 o (dataBytes iu) out) a)
+    (a, ap (λ (o : Result ℕ). putAt 24 o (dataBytes iu) out) a)
 
 -- what the writer's code shows: the header step after the data step, or a refusal
-pub both : (h : Header) (iu out : List ℕ) {x y : List ℕ} {a : Outcome ℕ} → x ≡ putData h iu out → (a ≡ writeAnswer h iu x) × (y ≡ putHeader h iu x) → (a ≡ writeAnswer h iu out) × (y ≡ put (writeAnswer h iu out) (encode h iu) out)
+pub both : (h : Header) (iu out : List ℕ) {x y : List ℕ} {a : Result ℕ} → x ≡ putData h iu out → (a ≡ writeAnswer h iu x) × (y ≡ putHeader h iu x) → (a ≡ writeAnswer h iu out) × (y ≡ put (writeAnswer h iu out) (encode h iu) out)
 both h iu out e p = let v = rw e at p in (v .0 ∙ leave-the-answer h iu out .0, v .1 ∙ are-the-writer h iu out .0)
 
-pub neither : (h : Header) (iu out : List ℕ) {x : List ℕ} {n : ℕ} → Outcome.number n ≡ writeAnswer h iu out → x ≡ putData h iu out → (Outcome.number n ≡ writeAnswer h iu out) × (x ≡ put (writeAnswer h iu out) (encode h iu) out)
-neither h iu out e p = (e, p ∙ ap (λ (a : Outcome ℕ). putAt 24 a (dataBytes iu) out) (sym e) ∙ ap (λ (a : Outcome ℕ). put a (encode h iu) out) e)
+pub neither : (h : Header) (iu out : List ℕ) {x : List ℕ} {n : ℕ} → Result.number n ≡ writeAnswer h iu out → x ≡ putData h iu out → (Result.number n ≡ writeAnswer h iu out) × (x ≡ put (writeAnswer h iu out) (encode h iu) out)
+neither h iu out e p = (e, p ∙ ap (λ (a : Result ℕ). putAt 24 a (dataBytes iu) out) (sym e) ∙ ap (λ (a : Result ℕ). put a (encode h iu) out) e)

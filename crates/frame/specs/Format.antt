@@ -54,7 +54,7 @@ fillOf n = (4 - n % 4) % 4
 -- the table of "The frame", bytes 0 to 23; "other header bits are reserved: written zero"
 unfoldable pub headerBytes : Header → ℕ → List ℕ
 headerBytes h fill =
-    (h .kind ∷ digits 3 (h .dest)) ++
+    (h .frametype ∷ digits 3 (h .dest)) ++
     (0 ∷ digits 3 (h .source)) ++
     (0 ∷ 0 ∷ flagByte (h .flags) ∷ fill ∷ 0 ∷ 0 ∷ 0 ∷ 0 ∷ digits 2 (h .tag)) ++
     digits 2 (h .tptt) ++

@@ -6,7 +6,7 @@ use lib.ListN.{length, getD, take, drop}
 use lib.Dec.{leb, eqb}
 use Rattle.status.specs.Pick.{pick, all}
 use Rattle.status.specs.Number.{refusalNumber}
-use Rattle.status.specs.Outcome.{Outcome}
+use Rattle.status.specs.Result.{Result}
 use Rattle.frame.specs.Format.{isType, field, flagsOf}
 use Rattle.frame.specs.declared.types.Header.{Header}
 use Rattle.frame.specs.declared.types.Parsed.{Parsed}
@@ -21,7 +21,7 @@ fillCount b = getD b 11 0 % 4
 unfoldable pub headerIn : List ℕ → Header
 headerIn b =
     record {
-      kind = getD b 0 0;
+      frametype = getD b 0 0;
       dest = field b 1 3;
       source = field b 5 3;
       flags = flagsOf (getD b 10 0);
@@ -44,14 +44,14 @@ abbrev pub iuOf : List ℕ → List ℕ
 iuOf b = take (iuLength b) (drop 24 b)
 
 -- the reader's answer: a frame, or a number
-abbrev pub decoded : Decoded → Outcome Parsed
-decoded (Frame p) = Outcome.value p
-decoded (Refused why) = Outcome.number (refusalNumber why)
+abbrev pub decoded : Decoded → Result Parsed
+decoded (Frame p) = Result.value p
+decoded (Refused why) = Result.number (refusalNumber why)
 
 -- the frame that well-formed bytes are: header, and where the IU stands
 abbrev pub parsed : List ℕ → Parsed
 parsed b = record { header = headerIn b; start = 24; len = iuLength b }
 
 -- 5, then 6, else the frame
-unfoldable pub decode : List ℕ → Outcome Parsed
-decode b = pick (wellFormed b) (pick (isType (getD b 0 0)) (Outcome.value (parsed b)) (Outcome.number 6)) (Outcome.number 5)
+unfoldable pub decode : List ℕ → Result Parsed
+decode b = pick (wellFormed b) (pick (isType (getD b 0 0)) (Result.value (parsed b)) (Result.number 6)) (Result.number 5)

@@ -7,7 +7,7 @@ use lib.ListN.{length, getD}
 use lib.Dec.{eqb, leb, ltb}
 use Rattle.status.specs.Pick.{pick}
 use Rattle.status.specs.Number.{failureNumber}
-use Rattle.status.specs.Outcome.{Outcome}
+use Rattle.status.specs.Result.{Result}
 use Rattle.status.specs.declared.answer.Opened.{Opened}
 use Rattle.frame.specs.Format.{field}
 use Rattle.frame.specs.Lent.{Lent, none, partOf}
@@ -39,24 +39,24 @@ abbrev pub opened : List ℕ → ℕ → Opened
 opened iu sense = record { kind = kindIn iu; status = statusIn iu; sense = sense }
 
 -- what an IU says with so many bytes of sense data, or 34 where a need is not met
-abbrev pub needing : Bool → List ℕ → ℕ → Outcome Opened
-needing met iu sense = pick met (Outcome.value (opened iu sense)) (Outcome.number 34)
+abbrev pub needing : Bool → List ℕ → ℕ → Result Opened
+needing met iu sense = pick met (Result.value (opened iu sense)) (Result.number 34)
 
 -- each kind's need ("kind 0 needs an IU of exactly 24"), "lengths of the other list are ignored"; kind 3 is 34
-unfoldable pub byKind : List ℕ → Outcome Opened
+unfoldable pub byKind : List ℕ → Result Opened
 byKind iu =
     pick (eqb (kindIn iu) 0) (needing (eqb (length iu) 24) iu 0)
     (pick (eqb (kindIn iu) 1) (needing (responseFits iu) iu 0)
-    (pick (eqb (kindIn iu) 2) (needing (senseFits iu) iu (senseLength iu)) (Outcome.number 34)))
+    (pick (eqb (kindIn iu) 2) (needing (senseFits iu) iu (senseLength iu)) (Result.number 34)))
 
 -- "32: under 24 bytes"; "34 ..: a failure, after 32"
-unfoldable pub responseIuOf : List ℕ → Outcome Opened
-responseIuOf iu = pick (ltb (length iu) 24) (Outcome.number 32) (byKind iu)
+unfoldable pub responseIuOf : List ℕ → Result Opened
+responseIuOf iu = pick (ltb (length iu) 24) (Result.number 32) (byKind iu)
 
 -- the reader's answer: kind, status and bytes of sense data, or a number
-abbrev pub responseRead : ResponseIu → Outcome Opened
-responseRead (Taken o) = Outcome.value o
-responseRead (Failed why) = Outcome.number (failureNumber why)
+abbrev pub responseRead : ResponseIu → Result Opened
+responseRead (Taken o) = Result.value o
+responseRead (Failed why) = Result.number (failureNumber why)
 
 -- the sense data of an IU that says o: "lists from byte 24"; "for kinds 0 and 1 .. the part is empty"
 abbrev pub senseOf : Opened → List ℕ → Lent

@@ -3,7 +3,7 @@ use Prim.Native.Nat.{ℕ, _+_, _*_, _≤_, _<_}
 use mathlib.Core.List.{List, [], _∷_, _++_}
 use mathlib.Core.Path.{_≡_}
 use lib.ListN.{length}
-use Rattle.status.specs.Outcome.{Outcome}
+use Rattle.status.specs.Result.{Result}
 use Rattle.status.specs.declared.answer.Opened.{Opened}
 use Rattle.frame.specs.Format.{digits}
 use Rattle.frame.specs.RoundTrip.{Bytes}
@@ -26,13 +26,13 @@ pub data Form : List ℕ → ℕ → ℕ → List ℕ → Type 0 where
 abbrev pub Opens : Type 0
 Opens =
     (iu : List ℕ) (k s : ℕ) (d : List ℕ) → Form iu k s d →
-    (responseIuOf iu ≡ Outcome.value (record { kind = k; status = s; sense = length d })) × (senseOf (record { kind = k; status = s; sense = length d }) iu .bytes ≡ d)
+    (responseIuOf iu ≡ Result.value (record { kind = k; status = s; sense = length d })) × (senseOf (record { kind = k; status = s; sense = length d }) iu .bytes ≡ d)
 
 -- (b) nothing else is: under 24 bytes 32, else 34
-pub data Read (iu : List ℕ) : Outcome Opened → Type 0 where
-  short : length iu < 24 → Read iu (Outcome.number 32)
-  wrong : 24 ≤ length iu → Read iu (Outcome.number 34)
-  taken : (o : Opened) → Form iu (o .kind) (o .status) (senseOf o iu .bytes) → Read iu (Outcome.value o)
+pub data Read (iu : List ℕ) : Result Opened → Type 0 where
+  short : length iu < 24 → Read iu (Result.number 32)
+  wrong : 24 ≤ length iu → Read iu (Result.number 34)
+  taken : (o : Opened) → Form iu (o .kind) (o .status) (senseOf o iu .bytes) → Read iu (Result.value o)
 
 abbrev pub NoOther : Type 0
 NoOther = (iu : List ℕ) → Bytes iu → Read iu (responseIuOf iu)

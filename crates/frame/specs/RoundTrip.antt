@@ -11,7 +11,7 @@ use Rattle.frame.specs.Read.{decode, iuOf, iuLength}
 use Rattle.frame.specs.Reserved.{cleared, kept}
 use Rattle.frame.specs.XferRdy.{xferRdyBytes, xferRdyOf}
 use Rattle.frame.specs.declared.types.Header.{Header}
-use Rattle.status.specs.Outcome.{Outcome}
+use Rattle.status.specs.Result.{Result}
 use Rattle.frame.specs.declared.types.Parsed.{Parsed}
 use Rattle.frame.specs.declared.types.XferRdy.{XferRdy}
 
@@ -27,11 +27,11 @@ pub record InRange (h : Header) : Type 0 where
 
 -- (a) what is written comes back when read, header and IU
 abbrev pub ComesBack : Type 0
-ComesBack = (h : Header) (iu : List ℕ) → InRange h → writable h (length iu) ≡ true → (decode (encode h iu) ≡ Outcome.value (record { header = h; start = 24; len = length iu })) × (iuOf (encode h iu) ≡ iu)
+ComesBack = (h : Header) (iu : List ℕ) → InRange h → writable h (length iu) ≡ true → (decode (encode h iu) ≡ Result.value (record { header = h; start = 24; len = length iu })) × (iuOf (encode h iu) ≡ iu)
 
 -- (b) an accepted frame read and written again is the frame with its reserved bits and fill at zero, and the writer takes what the reader gave
 abbrev pub WrittenAgain : Type 0
-WrittenAgain = (b : List ℕ) (p : Parsed) → Bytes b → decode b ≡ Outcome.value p → (writable (p .header) (p .len) ≡ true) × (encode (p .header) (take (p .len) (drop (p .start) b)) ≡ cleared b)
+WrittenAgain = (b : List ℕ) (p : Parsed) → Bytes b → decode b ≡ Result.value p → (writable (p .header) (p .len) ≡ true) × (encode (p .header) (take (p .len) (drop (p .start) b)) ≡ cleared b)
 
 -- (c) that differs from the frame at most in reserved bits and fill
 pub record Differs (b : List ℕ) : Type 0 where
@@ -40,8 +40,8 @@ pub record Differs (b : List ℕ) : Type 0 where
   pub iu : (i : ℕ) → 24 ≤ i → i < 24 + iuLength b → getD (cleared b) i 0 ≡ getD b i 0
 
 abbrev pub DiffersAtMost : Type 0
-DiffersAtMost = (b : List ℕ) (p : Parsed) → Bytes b → decode b ≡ Outcome.value p → Differs b
+DiffersAtMost = (b : List ℕ) (p : Parsed) → Bytes b → decode b ≡ Result.value p → Differs b
 
 -- the same of an XFER_RDY's IU
 abbrev pub XferRdyComesBack : Type 0
-XferRdyComesBack = (x : XferRdy) → x .offset < 2 ^ 32 → x .len < 2 ^ 32 → xferRdyOf (xferRdyBytes x) ≡ Outcome.value x
+XferRdyComesBack = (x : XferRdy) → x .offset < 2 ^ 32 → x .len < 2 ^ 32 → xferRdyOf (xferRdyBytes x) ≡ Result.value x

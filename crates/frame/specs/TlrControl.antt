@@ -1,5 +1,5 @@
 -- Request K8, TLR CONTROL, bits 4 and 3 of byte 10: frames that differ at most in these bits. That each role takes them alike is stated in link
--- specs/TakenAlike.
+-- link specs/TakenAlike.
 use Prim.Native.Nat.{ℕ, _/_, _%_}
 use mathlib.Core.List.{List}
 use mathlib.Core.Path.{_≡_}
@@ -17,7 +17,7 @@ pub record SameButTlr (f g : List ℕ) : Type 0 where
 
 -- a header with n for its TLR CONTROL
 abbrev pub tlr≔ : ℕ → Header → Header
-tlr≔ n h = record { kind = h .kind; dest = h .dest; source = h .source; flags = record { tlr = n; retry = h .flags .retry; retransmit = h .flags .retransmit; cdp = h .flags .cdp }; tag = h .tag; tptt = h .tptt; offset = h .offset }
+tlr≔ n h = record { frametype = h .frametype; dest = h .dest; source = h .source; flags = record { tlr = n; retry = h .flags .retry; retransmit = h .flags .retransmit; cdp = h .flags .cdp }; tag = h .tag; tptt = h .tptt; offset = h .offset }
 
 -- such are the frames written for two headers that differ only there; proved in proofs/TlrControl.antt
 abbrev pub WrittenSo : Type 0

@@ -4,15 +4,15 @@ use Prim.Native.Nat.{ℕ}
 use mathlib.Core.List.{List}
 use mathlib.Core.Path.{_≡_}
 use lib.ListN.{length, take, drop}
-use Rattle.status.specs.Outcome.{Outcome}
+use Rattle.status.specs.Result.{Result}
 use Rattle.frame.specs.Format.{fillOf, headerBytes, dataBytes, encode}
 use Rattle.frame.specs.Write.{writable, writeAnswer, placed, put}
 use Rattle.frame.specs.declared.types.Header.{Header}
 
 -- the output buffer d after an answer for the bytes s at place i: a refusal changes no byte
-abbrev pub putAt : ℕ → Outcome ℕ → List ℕ → List ℕ → List ℕ
-putAt i (Outcome.value n) s d = placed d i s
-putAt i (Outcome.number n) s d = d
+abbrev pub putAt : ℕ → Result ℕ → List ℕ → List ℕ → List ℕ
+putAt i (Result.value n) s d = placed d i s
+putAt i (Result.number n) s d = d
 
 -- "the first puts down data and fill and leaves the first 24 bytes unchanged": what it leaves in the output buffer
 abbrev pub putData : Header → List ℕ → List ℕ → List ℕ

@@ -11,10 +11,10 @@ use crate::types::TASK;
 use crate::types::XFER_RDY;
 
 // The five frame types; every other number is refused.
-pub(crate) fn known(kind: u8) -> bool
-    ensures { λ r. ⌜ r ≡ isType kind ⌝ }
+pub(crate) fn known(frametype: u8) -> bool
+    ensures { λ r. ⌜ r ≡ isType frametype ⌝ }
 {
-    match kind {
+    match frametype {
         DATA => true,
         XFER_RDY => true,
         COMMAND => true,

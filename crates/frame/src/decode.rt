@@ -21,7 +21,7 @@ fn header_of(b: &[u8]) -> Header
     ensures { λ r. ⌜ r ≡ headerIn (now (b .entry)) ⌝ }
 {
     Header {
-        kind: b[0],
+        frametype: b[0],
         dest: byte::be24(b, 1),
         source: byte::be24(b, 5),
         flags: byte::flags_of(b[10]),

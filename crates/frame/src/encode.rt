@@ -23,7 +23,7 @@ pub(crate) fn head(h: Header, fill: u8) -> [u8; 24]
 {
     let flags = h.flags;
     [
-        h.kind,
+        h.frametype,
         (h.dest / 256 / 256 % 256) as u8,
         (h.dest / 256 % 256) as u8,
         (h.dest % 256) as u8,
@@ -53,7 +53,7 @@ pub(crate) fn head(h: Header, fill: u8) -> [u8; 24]
 pub(crate) fn can_write(h: Header, n: usize) -> bool
     ensures { λ r. ⌜ r ≡ writable h n ⌝ }
 {
-    let known = byte::known(h.kind);
+    let known = byte::known(h.frametype);
     let flags = h.flags;
     known & (h.dest < 0x100_0000) & (h.source < 0x100_0000) & (flags.tlr < 4) & (n <= 1024)
 }

@@ -27,7 +27,7 @@ pub struct Flags {
 
 pub struct Header {
     // the type byte
-    pub kind: u8,
+    pub frametype: u8,
     // hashed addresses, 24 bits each
     pub dest: u32,
     pub source: u32,

@@ -1,11 +1,11 @@
-pub mod ReadTold
+pub mod ReadReturns
 pub mod ReadViews
 pub mod WriteHeld
 pub mod WriteFits
 pub mod WriteViews
 pub mod WriteCounts
 pub mod WriteSteps
-pub mod WriteTold
+pub mod WriteReturns
 pub mod WriteSame
 pub mod WriteEnded
 pub mod WriteKept

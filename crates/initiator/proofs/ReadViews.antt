@@ -7,7 +7,7 @@ use lib.ListN.{length, getD}
 use Rattle.status.specs.Entry.{entryOf}
 use Rattle.status.specs.Pick.{pick, _with_}
 use Rattle.status.specs.Answer.{Said, Left, _saying_, stores}
-use Rattle.status.specs.Outcome.{Outcome}
+use Rattle.status.specs.Result.{Result}
 use Rattle.status.proofs.Opened.{open-entry, ended-entry}
 use Rattle.status.proofs.Leaves.{Leaves, leaves-pick, leaves-unless, unless-gives}
 use Rattle.frame.specs.Format.{DATA, RESPONSE, encode}
@@ -19,60 +19,60 @@ use Rattle.frame.specs.Response.{responseIuOf}
 use Rattle.status.specs.declared.answer.Opened.{Opened}
 use Rattle.frame.specs.declared.types.Header.{Header}
 use Rattle.frame.specs.declared.types.XferRdy.{XferRdy}
-use Rattle.arrival.specs.Accept.{kindOf, acceptOf}
+use Rattle.arrival.specs.Accept.{classOf, acceptOf}
 use Rattle.arrival.specs.declared.Role.the-variants.{ReadInitiator}
-use Rattle.arrival.specs.declared.Kind.{Kind}
+use Rattle.arrival.specs.declared.Class.{Class}
 use Rattle.arrival.specs.declared.Arrived.{Arrived}
 use Rattle.arrival.proofs.Passed.{passed, written-passes}
-use Rattle.receiver.specs.Fields.{ended≔}
-use Rattle.receiver.specs.Record.{holdsOf, failedOf}
-use Rattle.receiver.specs.DataFrame.{lentOf, arrivalOf}
-use Rattle.receiver.specs.declared.types.Receiver.{Receiver}
+use Rattle.receiver_steps.specs.Fields.{ended≔}
+use Rattle.receiver_steps.specs.Record.{holdsOf, failedOf, lentOf}
+use Rattle.receiver.specs.DataFrame.{arrivalOf}
+use Rattle.receiver_steps.specs.declared.types.Receiver.{Receiver}
 use Rattle.receiver.proofs.Views.{Ended, arrival-leaves}
 use Rattle.receiver.proofs.Kept.{ended-holds, arrival-kept}
 use Rattle.initiator.specs.Read.{readHoldsOf, readLentOf, rejectedBy, notExpectedOf, openedBy, responseOf, takenOf, arrivedBy, readArrivalOf, readLossOf}
-use Rattle.initiator.proofs.ReadTold.{read-lent-again}
+use Rattle.initiator.proofs.ReadReturns.{read-lent-again}
 
 -- DATA that was written for this port reaches the receiving port as it was written
-data-kind : (kind : ℕ) → kind ≡ DATA → kindOf ReadInitiator kind ≡ Kind.Data
-unfolding kindOf pick
-data-kind kind e = rw e
+data-class : (frametype : ℕ) → frametype ≡ DATA → classOf ReadInitiator frametype ≡ Class.Data
+unfolding classOf pick
+data-class frametype e = rw e
 
-pub data-arrives : (r : Receiver) (h : Header) (iu : List ℕ) (m : ℕ) → lentOf r m ≡ true → r .transfer .write ≡ false → r .ended ≡ false → h .kind ≡ DATA → h .dest ≡ r .transfer .local → h .source ≡ r .transfer .remote → h .tag ≡ r .transfer .tag → InRange h → writable h (length iu) ≡ true → readArrivalOf r (encode h iu) m ≡ arrivalOf r (h .offset) (h .flags .cdp) (length iu) m
+pub data-arrives : (r : Receiver) (h : Header) (iu : List ℕ) (m : ℕ) → lentOf r m ≡ true → r .transfer .write ≡ false → r .ended ≡ false → h .frametype ≡ DATA → h .dest ≡ r .transfer .local → h .source ≡ r .transfer .remote → h .tag ≡ r .transfer .tag → InRange h → writable h (length iu) ≡ true → readArrivalOf r (encode h iu) m ≡ arrivalOf r (h .offset) (h .flags .cdp) (length iu) m
 unfolding readArrivalOf
 data-arrives r h iu m e v n k d s g i w =
-    rw (open-entry _ _ (read-lent-again r m e v) n, written-passes (r .transfer) ReadInitiator h iu Kind.Data (data-kind (h .kind) k) refl d s g i w)
+    rw (open-entry _ _ (read-lent-again r m e v) n, written-passes (r .transfer) ReadInitiator h iu Class.Data (data-class (h .frametype) k) refl d s g i w)
 
 -- ── what holds of every arrival ──
 module _ (P : Left Receiver → Type 0) (r : Receiver) (f : List ℕ) (m : ℕ)
     (refused : (n : ℕ) → P (r saying Said.refused n)) (failed : (n : ℕ) → P (failedOf r n)) (arrived : (offset : ℕ) (cdp : Bool) (n : ℕ) → P (arrivalOf r offset cdp n m))
     (answered : (start len : ℕ) (o : Opened) → P ((r with ended≔ true) saying Said.response start len o 0)) where
-  rejected-gives : (y : Outcome XferRdy) → P (rejectedBy y r)
-  rejected-gives (Outcome.number n) = failed n
-  rejected-gives (Outcome.value x) = failed 27
+  rejected-gives : (y : Result XferRdy) → P (rejectedBy y r)
+  rejected-gives (Result.number n) = failed n
+  rejected-gives (Result.value x) = failed 27
 
-  opened-gives : (start len : ℕ) (y : Outcome Opened) → P (openedBy y r start len)
-  opened-gives start len (Outcome.number n) = failed n
-  opened-gives start len (Outcome.value o) = answered start len o
+  opened-gives : (start len : ℕ) (y : Result Opened) → P (openedBy y r start len)
+  opened-gives start len (Result.number n) = failed n
+  opened-gives start len (Result.value o) = answered start len o
 
   pub response-gives : (start len : ℕ) (iu : List ℕ) → P (responseOf r start len iu)
   unfolding responseOf
   response-gives start len iu = opened-gives start len (responseIuOf iu)
 
-  kind-gives : (k : Kind) (a : Arrived) → P (takenOf k r a f m)
+  class-gives : (k : Class) (a : Arrived) → P (takenOf k r a f m)
   unfolding notExpectedOf
-  kind-gives Kind.Data a = arrived (a .header .offset) (a .header .flags .cdp) (a .len)
-  kind-gives Kind.XferRdy a = rejected-gives (xferRdyOf _)
-  kind-gives Kind.Response a = response-gives (a .start) (a .len) _
-  kind-gives Kind.Other a = refused 6
+  class-gives Class.Data a = arrived (a .header .offset) (a .header .flags .cdp) (a .len)
+  class-gives Class.XferRdy a = rejected-gives (xferRdyOf _)
+  class-gives Class.Response a = response-gives (a .start) (a .len) _
+  class-gives Class.Other a = refused 6
 
   pub arrival-gives : P (readArrivalOf r f m)
   unfolding readArrivalOf
   arrival-gives = unless-gives P (entryOf (readLentOf r m) (r .ended)) r _ refused (go (acceptOf ReadInitiator (r .transfer) f))
     where
-      go : (x : Outcome Arrived) → P (arrivedBy x r f m)
-      go (Outcome.number n) = refused n
-      go (Outcome.value a) = kind-gives (a .kind) a
+      go : (x : Result Arrived) → P (arrivedBy x r f m)
+      go (Result.number n) = refused n
+      go (Result.value a) = class-gives (a .class) a
 
 module _ (r : Receiver) where
   -- a refusal changes nothing; a failure and a RESPONSE end the record
@@ -100,18 +100,18 @@ module _ (r : Receiver) where
 
   -- a RESPONSE, taken or not, stores nothing
   pub response-stores-nothing : (f : List ℕ) (m : ℕ) → getD f 0 0 ≡ RESPONSE → stores (readArrivalOf r f m .says) ≡ false
-  unfolding readArrivalOf responseOf kindOf headerIn pick
+  unfolding readArrivalOf responseOf classOf headerIn pick
   response-stores-nothing f m e = unless-gives Plain (entryOf (readLentOf r m) (r .ended)) r _ (λ n. refl) (go (acceptOf ReadInitiator (r .transfer) f) refl)
     where
       Plain : Left Receiver → Type 0
       Plain x = stores (x .says) ≡ false
 
-      opened : (start len : ℕ) (y : Outcome Opened) → Plain (openedBy y r start len)
-      opened start len (Outcome.number n) = refl
-      opened start len (Outcome.value o) = refl
+      opened : (start len : ℕ) (y : Result Opened) → Plain (openedBy y r start len)
+      opened start len (Result.number n) = refl
+      opened start len (Result.value o) = refl
 
-      go : (x : Outcome Arrived) → acceptOf ReadInitiator (r .transfer) f ≡ x → Plain (arrivedBy x r f m)
-      go (Outcome.number n) q = refl
-      go (Outcome.value a) q =
-          let k : a .kind ≡ Kind.Response = sym (ap (λ (b : Arrived). b .kind) (passed (r .transfer) ReadInitiator f a q .is)) ∙ rw e in
+      go : (x : Result Arrived) → acceptOf ReadInitiator (r .transfer) f ≡ x → Plain (arrivedBy x r f m)
+      go (Result.number n) q = refl
+      go (Result.value a) q =
+          let k : a .class ≡ Class.Response = sym (ap (λ (b : Arrived). b .class) (passed (r .transfer) ReadInitiator f a q .is)) ∙ rw e in
           rw k (opened (a .start) (a .len) (responseIuOf _))

@@ -10,7 +10,7 @@ use lib.ListN.{length, take, drop, length-take, length-drop}
 use Rattle.status.specs.Entry.{entryOf}
 use Rattle.status.specs.Pick.{pick}
 use Rattle.status.specs.Answer.{Said, Left}
-use Rattle.status.specs.Outcome.{Outcome}
+use Rattle.status.specs.Result.{Result}
 use Rattle.status.specs.declared.answer.Opened.{Opened}
 use Rattle.status.proofs.Opened.{open-entry}
 use Rattle.status.proofs.Leaves.{picked, unless-gives}
@@ -25,21 +25,22 @@ use Rattle.frame.proofs.Writer.{encode-length}
 use Rattle.frame.proofs.Parts.{whole-part}
 use Rattle.frame.proofs.ResponseForms.{opens}
 use Rattle.transfer.specs.declared.Transfer.{Transfer}
-use Rattle.arrival.specs.Accept.{kindOf, acceptOf}
+use Rattle.arrival.specs.Accept.{classOf, acceptOf}
 use Rattle.arrival.specs.declared.Role.{Role}
 use Rattle.arrival.specs.declared.Role.the-variants.{ReadInitiator, WriteInitiator}
-use Rattle.arrival.specs.declared.Kind.{Kind}
+use Rattle.arrival.specs.declared.Class.{Class}
 use Rattle.arrival.specs.declared.Arrived.{Arrived}
 use Rattle.arrival.proofs.Passed.{arrivedIn, Passed, passed, written-passes, written-stands}
-use Rattle.receiver.specs.DataFrame.{lentOf, arrivalOf}
+use Rattle.receiver_steps.specs.Record.{lentOf}
+use Rattle.receiver.specs.DataFrame.{arrivalOf}
 use Rattle.receiver.proofs.Views as views
-use Rattle.receiver.specs.declared.types.Receiver.{Receiver}
+use Rattle.receiver_steps.specs.declared.types.Receiver.{Receiver}
 use Rattle.initiator.specs.Read as read
 use Rattle.initiator.specs.WriteTake as write
 use Rattle.initiator.specs.WriteRecord.{holdsOf}
 use Rattle.initiator.specs.Sense.{Stands, ReadStands, WriteStands, Comes, ReadOpens, WriteOpens}
-use Rattle.initiator.specs.declared.types.Verdict.{Verdict}
-use Rattle.initiator.specs.declared.types.Verdict.the-variants.{Next, Repeat, Fail}
+use Rattle.initiator.specs.declared.types.XferRdyDisposition.{XferRdyDisposition}
+use Rattle.initiator.specs.declared.types.XferRdyDisposition.the-variants.{Next, Repeat, Fail}
 use Rattle.initiator.specs.declared.types.Writer.{Writer}
 
 -- the IU of a frame that has passed 5 to 8 is as long as it says
@@ -54,35 +55,35 @@ module _ (w : Writer) (f : List ℕ) where
   abbrev Finds : Left Writer → Type 0
   Finds x = Stands (x .says) f
 
-  taken : (p : Passed WriteInitiator f (arrivedIn WriteInitiator f)) (k : Kind) → Finds (write.takenOf k w (arrivedIn WriteInitiator f) f)
+  taken : (p : Passed WriteInitiator f (arrivedIn WriteInitiator f)) (k : Class) → Finds (write.takenOf k w (arrivedIn WriteInitiator f) f)
   unfolding write.xferRdyTaken write.burstTaken write.nextTaken write.responseOf
-  taken p Kind.XferRdy = sized (xferRdyOf (iuOf f))
+  taken p Class.XferRdy = sized (xferRdyOf (iuOf f))
     where
-      judged : (x : XferRdy) (v : Verdict) → Finds (write.judgedBy v w (headerIn f) x)
+      judged : (x : XferRdy) (v : XferRdyDisposition) → Finds (write.judgedBy v w (headerIn f) x)
       judged x Next = tt
       judged x Repeat = tt
       judged x (Fail why) = tt
 
-      sized : (y : Outcome XferRdy) → Finds (write.sizedBy y w (headerIn f))
-      sized (Outcome.number n) = tt
-      sized (Outcome.value x) = judged x (write.verdictOf w x (headerIn f .flags .retransmit))
-  taken p Kind.Response = opened (responseIuOf (iuOf f)) refl
+      sized : (y : Result XferRdy) → Finds (write.sizedBy y w (headerIn f))
+      sized (Result.number n) = tt
+      sized (Result.value x) = judged x (write.dispositionOf w x (headerIn f .flags .retransmit))
+  taken p Class.Response = opened (responseIuOf (iuOf f)) refl
     where
-      opened : (y : Outcome Opened) → responseIuOf (iuOf f) ≡ y → Finds (write.openedBy y w 24 (iuLength f))
-      opened (Outcome.number n) e = tt
-      opened (Outcome.value o) e = (refl, stands-there f p, whole WriteInitiator f _ p, e)
-  taken p Kind.Data = tt
-  taken p Kind.Other = tt
+      opened : (y : Result Opened) → responseIuOf (iuOf f) ≡ y → Finds (write.openedBy y w 24 (iuLength f))
+      opened (Result.number n) e = tt
+      opened (Result.value o) e = (refl, stands-there f p, whole WriteInitiator f _ p, e)
+  taken p Class.Data = tt
+  taken p Class.Other = tt
 
 pub write-stands : WriteStands
 unfolding write.writeArrivalOf
 write-stands w f = unless-gives (Finds w f) (entryOf (holdsOf w) (w .sender .ended)) w _ (λ n. tt) (go (acceptOf WriteInitiator (w .sender .transfer) f) refl)
   where
-    go : (x : Outcome Arrived) → acceptOf WriteInitiator (w .sender .transfer) f ≡ x → Finds w f (write.arrivedBy x w f)
-    go (Outcome.number n) q = tt
-    go (Outcome.value a) q =
+    go : (x : Result Arrived) → acceptOf WriteInitiator (w .sender .transfer) f ≡ x → Finds w f (write.arrivedBy x w f)
+    go (Result.number n) q = tt
+    go (Result.value a) q =
         let p = passed (w .sender .transfer) WriteInitiator f a q in
-        subst (λ (b : Arrived). Passed WriteInitiator f b → Finds w f (write.takenOf (b .kind) w b f)) (p .is) (λ p. taken w f p (kindOf WriteInitiator (headerIn f .kind))) p
+        subst (λ (b : Arrived). Passed WriteInitiator f b → Finds w f (write.takenOf (b .class) w b f)) (p .is) (λ p. taken w f p (classOf WriteInitiator (headerIn f .frametype))) p
 
 module _ (r : Receiver) (f : List ℕ) (m : ℕ) where
   abbrev Found : Left Receiver → Type 0
@@ -100,36 +101,36 @@ module _ (r : Receiver) (f : List ℕ) (m : ℕ) where
       go (views.Arrived.skipped i s) = tt
       go (views.Arrived.stored i s) = picked (λ (a : Said). Stands a f) (eqb (max (r .filled) (offset + n)) (r .end)) Said.received Said.stored tt tt
 
-  arrived : (p : Passed ReadInitiator f (arrivedIn ReadInitiator f)) (k : Kind) → Found (read.takenOf k r (arrivedIn ReadInitiator f) f m)
+  arrived : (p : Passed ReadInitiator f (arrivedIn ReadInitiator f)) (k : Class) → Found (read.takenOf k r (arrivedIn ReadInitiator f) f m)
   unfolding read.notExpectedOf read.responseOf
-  arrived p Kind.Data = data-found (headerIn f .offset) (headerIn f .flags .cdp) (iuLength f)
-  arrived p Kind.XferRdy = rejected (xferRdyOf (iuOf f))
+  arrived p Class.Data = data-found (headerIn f .offset) (headerIn f .flags .cdp) (iuLength f)
+  arrived p Class.XferRdy = rejected (xferRdyOf (iuOf f))
     where
-      rejected : (y : Outcome XferRdy) → Found (read.rejectedBy y r)
-      rejected (Outcome.number n) = tt
-      rejected (Outcome.value x) = tt
-  arrived p Kind.Response = opened (responseIuOf (iuOf f)) refl
+      rejected : (y : Result XferRdy) → Found (read.rejectedBy y r)
+      rejected (Result.number n) = tt
+      rejected (Result.value x) = tt
+  arrived p Class.Response = opened (responseIuOf (iuOf f)) refl
     where
-      opened : (y : Outcome Opened) → responseIuOf (iuOf f) ≡ y → Found (read.openedBy y r 24 (iuLength f))
-      opened (Outcome.number n) e = tt
-      opened (Outcome.value o) e = (refl, stands-there f p, whole ReadInitiator f _ p, e)
-  arrived p Kind.Other = tt
+      opened : (y : Result Opened) → responseIuOf (iuOf f) ≡ y → Found (read.openedBy y r 24 (iuLength f))
+      opened (Result.number n) e = tt
+      opened (Result.value o) e = (refl, stands-there f p, whole ReadInitiator f _ p, e)
+  arrived p Class.Other = tt
 
 pub read-stands : ReadStands
 unfolding read.readArrivalOf
 read-stands r f m = unless-gives (Found r f m) (entryOf (read.readLentOf r m) (r .ended)) r _ (λ n. tt) (go (acceptOf ReadInitiator (r .transfer) f) refl)
   where
-    go : (x : Outcome Arrived) → acceptOf ReadInitiator (r .transfer) f ≡ x → Found r f m (read.arrivedBy x r f m)
-    go (Outcome.number n) q = tt
-    go (Outcome.value a) q =
+    go : (x : Result Arrived) → acceptOf ReadInitiator (r .transfer) f ≡ x → Found r f m (read.arrivedBy x r f m)
+    go (Result.number n) q = tt
+    go (Result.value a) q =
         let p = passed (r .transfer) ReadInitiator f a q in
-        subst (λ (b : Arrived). Passed ReadInitiator f b → Found r f m (read.takenOf (b .kind) r b f m)) (p .is) (λ p. arrived r f m p (kindOf ReadInitiator (headerIn f .kind))) p
+        subst (λ (b : Arrived). Passed ReadInitiator f b → Found r f m (read.takenOf (b .class) r b f m)) (p .is) (λ p. arrived r f m p (classOf ReadInitiator (headerIn f .frametype))) p
 
 -- (b)
-response-kind : (role : Role) (kind : ℕ) → (role ≡ ReadInitiator) ⊎ (role ≡ WriteInitiator) → kind ≡ RESPONSE → kindOf role kind ≡ Kind.Response
-unfolding kindOf pick
-response-kind role kind (inl e) k = rw (e, k)
-response-kind role kind (inr e) k = rw (e, k)
+response-class : (role : Role) (frametype : ℕ) → (role ≡ ReadInitiator) ⊎ (role ≡ WriteInitiator) → frametype ≡ RESPONSE → classOf role frametype ≡ Class.Response
+unfolding classOf pick
+response-class role frametype (inl e) k = rw (e, k)
+response-class role frametype (inr e) k = rw (e, k)
 
 -- the IU that was written stands in the frame
 stands : (t : Transfer) (h : Header) (iu : List ℕ) → Comes t h (length iu) → (take (length iu) (drop 24 (encode h iu)) ≡ iu) × (partOf (encode h iu) 24 (length iu) .bytes ≡ iu)
@@ -143,11 +144,11 @@ unfolding read.readArrivalOf read.responseOf
 read-opens r h iu m k s d e n c form =
     let i = stands (r .transfer) h iu c in
     let o = opens iu k s d form in
-    (rw (open-entry _ _ e n, written-passes (r .transfer) ReadInitiator h iu Kind.Response (response-kind ReadInitiator (h .kind) (inl refl) (c .kind)) refl (c .dest) (c .source) (c .tag) (c .range) (c .written), i .0, o .0), rw (i .1) (o .1))
+    (rw (open-entry _ _ e n, written-passes (r .transfer) ReadInitiator h iu Class.Response (response-class ReadInitiator (h .frametype) (inl refl) (c .frametype)) refl (c .dest) (c .source) (c .tag) (c .range) (c .written), i .0, o .0), rw (i .1) (o .1))
 
 pub write-opens : WriteOpens
 unfolding write.writeArrivalOf write.responseOf
 write-opens w h iu k s d e n c form =
     let i = stands (w .sender .transfer) h iu c in
     let o = opens iu k s d form in
-    (rw (open-entry _ _ e n, written-passes (w .sender .transfer) WriteInitiator h iu Kind.Response (response-kind WriteInitiator (h .kind) (inr refl) (c .kind)) refl (c .dest) (c .source) (c .tag) (c .range) (c .written), i .0, o .0), rw (i .1) (o .1))
+    (rw (open-entry _ _ e n, written-passes (w .sender .transfer) WriteInitiator h iu Class.Response (response-class WriteInitiator (h .frametype) (inr refl) (c .frametype)) refl (c .dest) (c .source) (c .tag) (c .range) (c .written), i .0, o .0), rw (i .1) (o .1))

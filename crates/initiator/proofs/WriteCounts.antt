@@ -11,22 +11,26 @@ use Rattle.status.specs.Pick.{pick, _with_}
 use Rattle.status.specs.Entry.{entryOf}
 use Rattle.status.specs.Answer.{Word, Taking, Said, Left, _saying_, refuses, unless}
 use Rattle.status.specs.declared.entry.Entry.{Entry}
-use Rattle.status.proofs.Leaves.{picked, unless-gives}
-use Rattle.sender.specs.Fields.{unanswered≔}
-use Rattle.sender.specs.Transmit.{frameOf, handsOf, lentOf as coreLent}
+use Rattle.status.proofs.Leaves.{picked, unless-gives, refusing}
+use Rattle.sender_steps.specs.Fields.{unanswered≔}
+use Rattle.sender_steps.specs.Transmit.{frameOf}
+use Rattle.sender_steps.specs.Record.{lentOf as coreLent}
+use Rattle.sender.specs.Transmit.{handsOf}
 use Rattle.sender.specs.Transmit as transmit
-use Rattle.sender.specs.Count.{history, Tells}
-use Rattle.sender.specs.Count as core
-use Rattle.sender.specs.Record as core-record
-use Rattle.sender.specs.Answer.{retryOf, settleOf, advanceOf, answersOf}
-use Rattle.sender.specs.Answer as answer
-use Rattle.sender.specs.declared.types.Burst.{Burst}
-use Rattle.sender.specs.declared.types.Sender.{Sender}
+use Rattle.sender_steps.specs.Count.{history, Tells}
+use Rattle.sender_steps.specs.Count as core
+use Rattle.sender_steps.specs.Record as core-record
+use Rattle.sender_steps.specs.Confirmation.{retryOf, settleOf, advanceOf}
+use Rattle.sender.specs.Confirmation.{confirmsOf}
+use Rattle.sender.specs.Confirmation as confirmation
+use Rattle.sender_steps.specs.Confirmation as confirmation-steps
+use Rattle.sender_steps.specs.declared.types.Burst.{Burst}
+use Rattle.sender_steps.specs.declared.types.Sender.{Sender}
 use Rattle.sender.proofs.Counting as counting
 use Rattle.initiator.specs.Fields.{sender≔, pending≔, taken≔}
 use Rattle.initiator.specs.WriteRecord.{holdsOf, startsOf, beginsOf}
 use Rattle.initiator.specs.WriteCount.{takes, began, Counts}
-use Rattle.initiator.specs.WriteSend.{liftedOf, reachedOf, lentOf, heldUp, begunOf, keptOf, nextOf, countedOf, answeredOf, ackOf, nakOf, timeoutOf, cutOf, lossOf}
+use Rattle.initiator.specs.WriteSend.{liftedOf, reachedOf, lentOf, heldUp, begunOf, keptOf, nextOf, countedOf, confirmedOf, ackOf, nakOf, timeoutOf, cutOf, lossOf}
 use Rattle.initiator.specs.WriteTake.{endedOf, failedOf, askedOf, burstTaken, writeArrivalOf}
 use Rattle.initiator.specs.declared.types.Writer.{Writer}
 use Rattle.initiator.proofs.WriteViews.{Takes, Came, came}
@@ -81,9 +85,9 @@ module _ (w : Writer) (f : List ℕ) where
       left : Writer
       left = w with sender≔ (w .sender with unanswered≔ n)
 
-      go : (t : Bool) → Counts w f (pick t (startsOf w) left saying Said.told Word.taken)
-      go true = starts-now (startsOf w saying Said.told Word.taken) (rw p) refl (λ h e. tt)
-      go false = goes-on (left saying Said.told Word.taken) refl refl (λ h e. (e, tt))
+      go : (t : Bool) → Counts w f (pick t (startsOf w) left saying Said.word Word.taken)
+      go true = starts-now (startsOf w saying Said.word Word.taken) (rw p) refl (λ h e. tt)
+      go false = goes-on (left saying Said.word Word.taken) refl refl (λ h e. (e, tt))
 
   pub waits-pending : heldUp w ≡ true → w .pending ≡ true
   waits-pending = go (w .pending) refl
@@ -92,8 +96,8 @@ module _ (w : Writer) (f : List ℕ) where
       go true e q = e
       go false e q = absurd (false≢true q)
 
-  counts-answered : (x : Left Sender) (n : ℕ) → Plain x → core.Counts (w .sender) f x → Counts w f (answeredOf w x n)
-  unfolding answeredOf pick
+  counts-answered : (x : Left Sender) (n : ℕ) → Plain x → core.Counts (w .sender) f x → Counts w f (confirmedOf w x n)
+  unfolding confirmedOf pick
   counts-answered x n z k = counts-unless (entryOf (holdsOf w) (w .sender .ended)) _ (go (heldUp w) refl)
     where
       go : (t : Bool) → heldUp w ≡ t → Counts w f (pick t (countedOf w n) (liftedOf w x))
@@ -101,19 +105,19 @@ module _ (w : Writer) (f : List ℕ) where
       go false e = counts-lifted x z k
 
 pub ack-counts : (w : Writer) → Counts w [] (ackOf w)
-ack-counts w = counts-answered w [] _ _ (unless-gives Plain (answersOf (w .sender)) (w .sender) _ (λ n. refl) (plain-settle _)) (counting.ack-counts (w .sender))
+ack-counts w = counts-answered w [] _ _ (unless-gives Plain (confirmsOf (w .sender)) (w .sender) _ (λ n. refl) (plain-settle _)) (counting.ack-counts (w .sender))
 
 pub nak-counts : (w : Writer) → Counts w [] (nakOf w)
-nak-counts w = counts-answered w [] _ _ (unless-gives Plain (answersOf (w .sender)) (w .sender) _ (λ n. refl) (plain-settle _)) (counting.nak-counts (w .sender))
+nak-counts w = counts-answered w [] _ _ (unless-gives Plain (confirmsOf (w .sender)) (w .sender) _ (λ n. refl) (plain-settle _)) (counting.nak-counts (w .sender))
 
 pub timeout-counts : (w : Writer) → Counts w [] (timeoutOf w)
-timeout-counts w = counts-answered w [] _ _ (unless-gives Plain (answersOf (w .sender)) (w .sender) _ (λ n. refl) (plain-retry _ _)) (counting.timeout-counts (w .sender))
+timeout-counts w = counts-answered w [] _ _ (unless-gives Plain (confirmsOf (w .sender)) (w .sender) _ (λ n. refl) (plain-retry _ _)) (counting.timeout-counts (w .sender))
 
 pub cut-counts : (w : Writer) → Counts w [] (cutOf w)
 cut-counts w = counts-answered w [] _ _ (unless-gives Plain (entryOf (core-record.holdsOf (w .sender)) (w .sender .ended)) (w .sender) _ (λ n. refl) (picked Plain _ _ _ refl (plain-retry _ _))) (counting.cut-counts (w .sender))
 
 pub loss-counts : (w : Writer) → Counts w [] (lossOf w)
-loss-counts w = counts-unless w [] (entryOf (holdsOf w) (w .sender .ended)) _ (counts-lifted w [] (answer.lossOf (w .sender)) (unless-gives Plain (entryOf (core-record.holdsOf (w .sender)) (w .sender .ended)) (w .sender) (answer.failedOf (w .sender) 31) (λ n. refl) refl) (counting.loss-counts (w .sender)))
+loss-counts w = counts-unless w [] (entryOf (holdsOf w) (w .sender .ended)) _ (counts-lifted w [] (confirmation.lossOf (w .sender)) (unless-gives Plain (entryOf (core-record.holdsOf (w .sender)) (w .sender .ended)) (w .sender) (confirmation-steps.failedOf (w .sender) 31) (λ n. refl) refl) (counting.loss-counts (w .sender)))
 
 -- an XFER_RDY that is taken, its burst started at once or not
 burst-counts : (w : Writer) (b : Burst) {a : Said} → Takes w a → Counts w [] (burstTaken w b a)
@@ -128,9 +132,9 @@ burst-counts w b {a} t = go (eqb (w .sender .unanswered) 0) t
     left = w with pending≔ true with taken≔ b
 
     go : (u : Bool) {a : Said} → Takes w a → Counts w [] (pick u (beginsOf (w .sender .transfer) b) left saying a)
-    go true Takes.next = starts-now w [] (beginsOf (w .sender .transfer) b saying Said.burst Taking.next) (either (w .pending)) refl (λ h e. tt)
-    go true Takes.delivers = starts-now w [] (beginsOf (w .sender .transfer) b saying Said.burst (Taking.delivers (w .sender .frames))) (either (w .pending)) refl (λ h e. sym e)
-    go true Takes.repeats = starts-now w [] (beginsOf (w .sender .transfer) b saying Said.burst Taking.repeats) (either (w .pending)) refl (λ h e. tt)
+    go true Takes.next = starts-now w [] (beginsOf (w .sender .transfer) b saying Said.xferRdy Taking.next) (either (w .pending)) refl (λ h e. tt)
+    go true Takes.delivers = starts-now w [] (beginsOf (w .sender .transfer) b saying Said.xferRdy (Taking.delivers (w .sender .frames))) (either (w .pending)) refl (λ h e. sym e)
+    go true Takes.repeats = starts-now w [] (beginsOf (w .sender .transfer) b saying Said.xferRdy Taking.repeats) (either (w .pending)) refl (λ h e. tt)
     go false Takes.next = λ h e. (e, tt)
     go false Takes.delivers = λ h e. (e, sym e)
     go false Takes.repeats = λ h e. (e, tt)
@@ -148,15 +152,7 @@ next-silent s d out =
     (picked Silent _ _ _ (record { plain = refl; tells = λ k. tt }) (picked Silent _ _ _ (record { plain = refl; tells = λ k. tt }) (record { plain = refl; tells = λ k. tt })))
 
 refused-plain : (a : Said) → refuses a ≡ true → (f : List ℕ) (h : List (List ℕ)) → (history a f h ≡ h) × (takes a ≡ false)
-refused-plain (Said.refused n) e f h = (refl, refl)
-refused-plain (Said.failed n k) e f h = absurd (false≢true e)
-refused-plain (Said.frame n) e f h = absurd (false≢true e)
-refused-plain (Said.delivered n) e f h = absurd (false≢true e)
-refused-plain Said.stored e f h = absurd (false≢true e)
-refused-plain Said.received e f h = absurd (false≢true e)
-refused-plain (Said.burst t) e f h = absurd (false≢true e)
-refused-plain (Said.response start len o n) e f h = absurd (false≢true e)
-refused-plain (Said.told v) e f h = absurd (false≢true e)
+refused-plain a e f h = refusing (λ (b : Said). (history b f h ≡ h) × (takes b ≡ false)) (λ n. (refl, refl)) a e
 
 module _ (w : Writer) (d out : List ℕ) where
   -- by the answer y of the record v that serves the frame: v is w, or w's pending burst, started
@@ -171,7 +167,7 @@ module _ (w : Writer) (d out : List ℕ) where
 
   pub next-counts : Counts w (frameOf (begunOf w .sender) d) (nextOf w d out)
   unfolding nextOf begunOf pick
-  next-counts = counts-unless w (frameOf (begunOf w .sender) d) (entryOf (lentOf w (length d)) (w .sender .ended)) _ (picked (Counts w (frameOf (begunOf w .sender) d)) (heldUp w) _ _ (goes-on w (frameOf (begunOf w .sender) d) (w saying Said.told Word.wait) refl refl (λ h e. (e, tt))) (served (begunOf w) (frameOf (begunOf w .sender) d) (transmit.nextOf (begunOf w .sender) d out) (next-silent (begunOf w .sender) d out) (λ h e. counting.next-counts (begunOf w .sender) d out h e .0) (go (w .pending) refl)))
+  next-counts = counts-unless w (frameOf (begunOf w .sender) d) (entryOf (lentOf w (length d)) (w .sender .ended)) _ (picked (Counts w (frameOf (begunOf w .sender) d)) (heldUp w) _ _ (goes-on w (frameOf (begunOf w .sender) d) (w saying Said.word Word.wait) refl refl (λ h e. (e, tt))) (served (begunOf w) (frameOf (begunOf w .sender) d) (transmit.nextOf (begunOf w .sender) d out) (next-silent (begunOf w .sender) d out) (λ h e. counting.next-counts (begunOf w .sender) d out h e .0) (go (w .pending) refl)))
     where
       go : (p : Bool) → w .pending ≡ p → (pick p (startsOf w) w ≡ w) ⊎ ((w .pending ≡ true) × (pick p (startsOf w) w .pending ≡ false) × (pick p (startsOf w) w .sender .frames ≡ 0))
       go true e = inr (e, refl, refl)

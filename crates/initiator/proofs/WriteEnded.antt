@@ -13,12 +13,12 @@ use Rattle.status.proofs.Leaves.{AfterWord, After, Leaves, leaves-pick, leaves-
 use Rattle.frame.specs.declared.types.Header.{Header}
 use Rattle.frame.specs.declared.types.XferRdy.{XferRdy}
 use Rattle.sender.specs.Transmit as transmit
-use Rattle.sender.specs.Answer as answer
-use Rattle.sender.specs.declared.types.Sender.{Sender}
+use Rattle.sender.specs.Confirmation as confirmation
+use Rattle.sender_steps.specs.declared.types.Sender.{Sender}
 use Rattle.sender.proofs.Ended as core
 use Rattle.initiator.specs.Fields.{sender≔}
 use Rattle.initiator.specs.WriteRecord.{holdsOf}
-use Rattle.initiator.specs.WriteSend.{liftedOf, lentOf, heldUp, begunOf, reachedOf, keptOf, nextOf, countedOf, answeredOf, ackOf, nakOf, timeoutOf, cutOf, lossOf}
+use Rattle.initiator.specs.WriteSend.{liftedOf, lentOf, heldUp, begunOf, reachedOf, keptOf, nextOf, countedOf, confirmedOf, ackOf, nakOf, timeoutOf, cutOf, lossOf}
 use Rattle.initiator.specs.WriteTake.{askedOf, burstTaken, writeArrivalOf}
 use Rattle.initiator.specs.declared.types.Writer.{Writer}
 use Rattle.initiator.proofs.WriteViews.{Takes, Came, came}
@@ -49,12 +49,12 @@ module _ (w : Writer) where
       go (Said.delivered n) e = tt
       go Said.stored e = tt
       go Said.received e = tt
-      go (Said.burst t) e = tt
+      go (Said.xferRdy t) e = tt
       go (Said.response start len o n) e = e
-      go (Said.told v) e = word v e
+      go (Said.word v) e = word v e
 
-  leaves-answered : (x : Left Sender) (n : ℕ) → Leaves core.Ended (w .sender) x → Leaves Ended w (answeredOf w x n)
-  unfolding answeredOf countedOf
+  leaves-answered : (x : Left Sender) (n : ℕ) → Leaves core.Ended (w .sender) x → Leaves Ended w (confirmedOf w x n)
+  unfolding confirmedOf countedOf
   leaves-answered x n l = leaves-unless Ended w (entryOf (holdsOf w) (w .sender .ended)) _ (leaves-pick Ended w (heldUp w) _ _ tt (leaves-lifted x l))
 
   pub ack-leaves : Leaves Ended w (ackOf w)
@@ -70,12 +70,12 @@ module _ (w : Writer) where
   cut-leaves = leaves-answered _ _ (core.cut-leaves (w .sender))
 
   pub loss-leaves : Leaves Ended w (lossOf w)
-  loss-leaves = leaves-unless Ended w (entryOf (holdsOf w) (w .sender .ended)) _ (leaves-lifted (answer.lossOf (w .sender)) (core.loss-leaves (w .sender)))
+  loss-leaves = leaves-unless Ended w (entryOf (holdsOf w) (w .sender .ended)) _ (leaves-lifted (confirmation.lossOf (w .sender)) (core.loss-leaves (w .sender)))
 
   -- a frame asked for is refused, and then nothing changed; or it is handed out, or not due
   pub next-same : (d out : List ℕ) → refuses (nextOf w d out .says) ≡ true → nextOf w d out .left ≡ w
   unfolding nextOf pick
-  next-same d out = unless-gives (λ (x : Left Writer). refuses (x .says) ≡ true → x .left ≡ w) (entryOf (lentOf w (length d)) (w .sender .ended)) w _ (λ n e. refl) (picked (λ (x : Left Writer). refuses (x .says) ≡ true → x .left ≡ w) (heldUp w) (w saying Said.told Word.wait) (keptOf w served) (λ e. refl) (kept served))
+  next-same d out = unless-gives (λ (x : Left Writer). refuses (x .says) ≡ true → x .left ≡ w) (entryOf (lentOf w (length d)) (w .sender .ended)) w _ (λ n e. refl) (picked (λ (x : Left Writer). refuses (x .says) ≡ true → x .left ≡ w) (heldUp w) (w saying Said.word Word.wait) (keptOf w served) (λ e. refl) (kept served))
     where
       served : Left Writer
       served = reachedOf (begunOf w) (transmit.nextOf (begunOf w .sender) d out)
@@ -104,8 +104,8 @@ module _ (w : Writer) where
 
   -- an ended record: 1 or 2, whatever is asked of it
   module _ (e : w .sender .ended ≡ true) where
-    answered-ended : (x : Left Sender) (n : ℕ) → (k : ℕ) × (answeredOf w x n ≡ (w saying Said.refused k))
-    unfolding answeredOf
+    answered-ended : (x : Left Sender) (n : ℕ) → (k : ℕ) × (confirmedOf w x n ≡ (w saying Said.refused k))
+    unfolding confirmedOf
     answered-ended x n = ended-entry _ _ w _ e
 
     pub next-ended : (d out : List ℕ) → (k : ℕ) × (nextOf w d out ≡ (w saying Said.refused k))

@@ -13,20 +13,20 @@ use Rattle.status.proofs.Opened.{differ}
 use Rattle.transfer.specs.Limits.{limitsHold}
 use Rattle.transfer.proofs.Bounds.{bounds}
 use Rattle.frame.specs.declared.types.XferRdy.{XferRdy}
-use Rattle.sender.specs.declared.types.Burst.{Burst}
-use Rattle.initiator.specs.WriteTake.{previous, allHanded, fitsOf, repeatOf, verdictOf}
-use Rattle.initiator.specs.declared.types.Verdict.{Verdict}
-use Rattle.initiator.specs.declared.types.Verdict.the-variants.{Next, Repeat, Fail}
+use Rattle.sender_steps.specs.declared.types.Burst.{Burst}
+use Rattle.initiator.specs.WriteTake.{previous, allHanded, fitsOf, repeatOf, dispositionOf}
+use Rattle.initiator.specs.declared.types.XferRdyDisposition.{XferRdyDisposition}
+use Rattle.initiator.specs.declared.types.XferRdyDisposition.the-variants.{Next, Repeat, Fail}
 use Rattle.initiator.specs.declared.types.Writer.{Writer}
 
 pub record Fits (w : Writer) (x : XferRdy) : Type 0 where
   pub some : 0 < x .len
   pub most : x .offset + x .len ≤ w .sender .transfer .count
 
-abbrev pub Taken : Verdict → Type 0
+abbrev pub Taken : XferRdyDisposition → Type 0
 Taken v = (v ≡ Next) ⊎ (v ≡ Repeat)
 
-fits : (w : Writer) (x : XferRdy) (v : Verdict) → Taken (fitsOf w x v) → Fits w x
+fits : (w : Writer) (x : XferRdy) (v : XferRdyDisposition) → Taken (fitsOf w x v) → Fits w x
 unfolding fitsOf pick
 fits w x v e = go (eqb (x .len) 0) (ltb (w .sender .transfer .count) (x .offset + x .len)) refl refl e
   where
@@ -38,7 +38,7 @@ fits w x v e = go (eqb (x .len) 0) (ltb (w .sender .transfer .count) (x .offset 
     go true u p q (inr e) = differ (cc)
 
 -- by what the code compares: p is the previous burst
-pub same-length : (w : Writer) (x : XferRdy) (r : Verdict) (p : Burst) → p ≡ previous w → p .base + x .len ≡ p .end → r ≡ fitsOf w x Repeat → r ≡ repeatOf w x
+pub same-length : (w : Writer) (x : XferRdy) (r : XferRdyDisposition) (p : Burst) → p ≡ previous w → p .base + x .len ≡ p .end → r ≡ fitsOf w x Repeat → r ≡ repeatOf w x
 unfolding repeatOf
 same-length w x r p e l q = in-true _ _ _ _ (eq-eqb _ _ (rw e at l)) q
 
@@ -55,8 +55,8 @@ repeat-fits w x e = go (eqb (previous w .base + x .len) (previous w .end)) e
     go false (inl e) = differ (cc)
     go false (inr e) = differ (cc)
 
-pub taken-fits : (w : Writer) (x : XferRdy) (retransmit : Bool) → Taken (verdictOf w x retransmit) → Fits w x
-unfolding verdictOf pick
+pub taken-fits : (w : Writer) (x : XferRdy) (retransmit : Bool) → Taken (dispositionOf w x retransmit) → Fits w x
+unfolding dispositionOf pick
 taken-fits w x retransmit e = go (retransmit && eqb (x .offset) (previous w .base) && ltb (previous w .base) (previous w .end)) (eqb (x .offset) (previous w .end)) (allHanded w) e
   where
     go : (t u v : Bool) → Taken (pick t (repeatOf w x) (pick u (pick v (fitsOf w x Next) (Fail XferRdyNotExpected)) (Fail XferRdyRequestedOffsetError))) → Fits w x
@@ -68,7 +68,7 @@ taken-fits w x retransmit e = go (retransmit && eqb (x .offset) (previous w .bas
     go false false v (inr e) = differ (cc)
 
 -- and its end is a number of 32 bits
-pub end-fits : (w : Writer) (x : XferRdy) (retransmit : Bool) → limitsHold (w .sender .transfer) ≡ true → Taken (verdictOf w x retransmit) → x .offset + x .len < 2 ^ 32
+pub end-fits : (w : Writer) (x : XferRdy) (retransmit : Bool) → limitsHold (w .sender .transfer) ≡ true → Taken (dispositionOf w x retransmit) → x .offset + x .len < 2 ^ 32
 end-fits w x retransmit l e =
     let f = taken-fits w x retransmit e in
     let b = bounds (w .sender .transfer) l in

@@ -5,8 +5,8 @@ use mathlib.Core.Path.{_≡_}
 use native.Mathlib.Omega.{arith}
 use borrow.Author.Tests.{leb-true, eqb-true, le-leb, eq-eqb}
 use Rattle.status.proofs.Choose.{each}
-use Rattle.sender.specs.Record as sender
-use Rattle.sender.proofs.Held as core
+use Rattle.sender_steps.specs.Record as sender
+use Rattle.sender_steps.proofs.Held as core
 use Rattle.initiator.specs.WriteRecord.{tests, holdsOf}
 use Rattle.initiator.specs.WriteSend.{lentOf, lentTests}
 use Rattle.initiator.specs.declared.types.Writer.{Writer}

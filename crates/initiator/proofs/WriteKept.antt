@@ -14,18 +14,18 @@ use Rattle.status.proofs.Leaves.{picked, unless-gives}
 use Rattle.transfer.specs.declared.Transfer.{Transfer}
 use Rattle.frame.specs.declared.types.Header.{Header}
 use Rattle.frame.specs.declared.types.XferRdy.{XferRdy}
-use Rattle.sender.specs.Fields.{unanswered≔}
+use Rattle.sender_steps.specs.Fields.{unanswered≔}
 use Rattle.sender.specs.Transmit as transmit
-use Rattle.sender.specs.Answer as answer
-use Rattle.sender.specs.Record as sender
-use Rattle.sender.specs.declared.types.Burst.{Burst}
-use Rattle.sender.specs.declared.types.Sender.{Sender}
-use Rattle.sender.proofs.Held as core
+use Rattle.sender_steps.specs.Confirmation as confirmation
+use Rattle.sender_steps.specs.Record as sender
+use Rattle.sender_steps.specs.declared.types.Burst.{Burst}
+use Rattle.sender_steps.specs.declared.types.Sender.{Sender}
+use Rattle.sender_steps.proofs.Held as core
 use Rattle.sender.proofs.Kept.{begins-holds, ended-holds, next-kept, ack-kept, nak-kept, timeout-kept, cut-kept, loss-kept}
 use Rattle.sender.proofs.Shape.{Shape, next-shape, ack-shape, nak-shape, timeout-shape, cut-shape}
 use Rattle.initiator.specs.Fields.{sender≔, reached≔, pending≔, taken≔}
 use Rattle.initiator.specs.WriteRecord.{holdsOf, beginsOf, startsOf}
-use Rattle.initiator.specs.WriteSend.{liftedOf, reachedOf, lentOf, heldUp, begunOf, keptOf, nextOf, countedOf, answeredOf, ackOf, nakOf, timeoutOf, cutOf, lossOf}
+use Rattle.initiator.specs.WriteSend.{liftedOf, reachedOf, lentOf, heldUp, begunOf, keptOf, nextOf, countedOf, confirmedOf, ackOf, nakOf, timeoutOf, cutOf, lossOf}
 use Rattle.initiator.specs.WriteTake.{endedOf, askedOf, limitOf, burstTaken, writeArrivalOf}
 use Rattle.initiator.specs.declared.types.Writer.{Writer}
 use Rattle.initiator.proofs.WriteHeld.{Marks, Held, held, holds-again}
@@ -67,8 +67,8 @@ module _ (w : Writer) (h : holdsOf w ≡ true) where
       picked (λ (v : Writer). holdsOf v ≡ true) (eqb n 0) _ _ (starts-well w h)
       (holds-with (w .sender with unanswered≔ n) (w .reached) (core.holds-again (w .sender with unanswered≔ n) (held w h .core .limits-hold) (omega arith)) refl refl (m .reached-least) (m .reached-most))
 
-  answered-kept : (x : Left Sender) (n : ℕ) → n ≤ w .sender .unanswered → Shape (w .sender) (w .sender .next) x → sender.holdsOf (x .left) ≡ true → Kept (answeredOf w x n)
-  unfolding answeredOf
+  answered-kept : (x : Left Sender) (n : ℕ) → n ≤ w .sender .unanswered → Shape (w .sender) (w .sender .next) x → sender.holdsOf (x .left) ≡ true → Kept (confirmedOf w x n)
+  unfolding confirmedOf
   answered-kept x n l p k = unless-gives Kept (entryOf (holdsOf w) (w .sender .ended)) w _ (λ n. h) (picked Kept (heldUp w) _ _ (counted-kept n l) (signal-kept x p k))
 
   c : sender.holdsOf (w .sender) ≡ true
@@ -87,7 +87,7 @@ module _ (w : Writer) (h : holdsOf w ≡ true) where
   write-cut-kept = answered-kept _ _ (omega arith) (cut-shape (w .sender) (core.held _ c)) (cut-kept (w .sender) c)
 
   pub ended-well : holdsOf (endedOf w) ≡ true
-  ended-well = let m = held w h .marks in holds-with (answer.endedOf (w .sender)) (w .reached) (ended-holds (w .sender) (core.held _ c)) refl refl (m .reached-least) (m .reached-most)
+  ended-well = let m = held w h .marks in holds-with (confirmation.endedOf (w .sender)) (w .reached) (ended-holds (w .sender) (core.held _ c)) refl refl (m .reached-least) (m .reached-most)
 
   pub write-loss-kept : holdsOf (lossOf w .left) ≡ true
   write-loss-kept = unless-gives Kept (entryOf (holdsOf w) (w .sender .ended)) w _ (λ n. h) (unless-gives (λ (x : Left Sender). Kept (liftedOf w x)) (entryOf (sender.holdsOf (w .sender)) (w .sender .ended)) (w .sender) _ (λ n. h) ended-well)
@@ -113,7 +113,7 @@ pub write-next-kept : (w : Writer) (d out : List ℕ) → holdsOf w ≡ true →
 unfolding nextOf begunOf
 write-next-kept w d out h l =
     unless-gives Kept (entryOf (lentOf w (length d)) (w .sender .ended)) w _ (λ n. h)
-    (picked Kept (heldUp w) (w saying Said.told Word.wait) (keptOf w answer-of) h (picked Kept (refuses (answer-of .says)) (w saying answer-of .says) answer-of h (served (begunOf w) (picked (λ (v : Writer). holdsOf v ≡ true) (w .pending) _ _ (starts-well w h) h) l)))
+    (picked Kept (heldUp w) (w saying Said.word Word.wait) (keptOf w answer-of) h (picked Kept (refuses (answer-of .says)) (w saying answer-of .says) answer-of h (served (begunOf w) (picked (λ (v : Writer). holdsOf v ≡ true) (w .pending) _ _ (starts-well w h) h) l)))
   where
     answer-of : Left Writer
     answer-of = reachedOf (begunOf w) (transmit.nextOf (begunOf w .sender) d out)

@@ -7,9 +7,9 @@ use native.Mathlib.Omega.{arith}
 use lib.Dec.{eqb}
 use lib.ListN.{length}
 use Rattle.status.specs.Pick.{pick}
-use Rattle.status.specs.Entry.{entryOf, andSome, answerableOf}
+use Rattle.status.specs.Entry.{entryOf, andSome, confirmableOf}
 use Rattle.status.specs.Number.{refusalNumber}
-use Rattle.status.specs.Outcome.{Outcome}
+use Rattle.status.specs.Result.{Result}
 use Rattle.status.specs.Answer.{Word, Said, Left, _saying_, refuses, unless}
 use Rattle.status.specs.declared.words.Refusal.{Refusal}
 use Rattle.status.specs.declared.entry.Entry.{Entry}
@@ -17,16 +17,18 @@ use Rattle.status.specs.declared.entry.Entry.the-variants.{Open, Closed}
 use Rattle.status.specs.declared.words.Refusal.the-variants.{AnswerWithoutFrame}
 use Rattle.status.proofs.Choose.{in-true, in-false}
 use Rattle.status.proofs.Leaves.{picked}
-use Rattle.status.proofs.Opened.{open-entry, open-answerable, opened, answered as answerable, differ}
+use Rattle.status.proofs.Opened.{open-entry, open-confirmable, opened, confirmed as confirmable, differ}
 use Rattle.frame.specs.Write.{writeAnswer, answered}
-use Rattle.sender.specs.Answer as answer
+use Rattle.sender.specs.Confirmation as confirmation
 use Rattle.sender.specs.Transmit as transmit
-use Rattle.sender.specs.Step.{fitsOf, writesOf, frameStepOf, ackStepOf}
-use Rattle.sender.specs.declared.types.Sender.{Sender}
-use Rattle.sender.proofs.Held as core
+use Rattle.sender_steps.specs.Transmit as transmit-step
+use Rattle.sender_steps.specs.Transmit.{fitsOf, writesOf, frameStepOf}
+use Rattle.sender_steps.specs.Confirmation.{ackStepOf}
+use Rattle.sender_steps.specs.declared.types.Sender.{Sender}
+use Rattle.sender_steps.proofs.Held as core
 use Rattle.sender.proofs.Steps.{next-step}
 use Rattle.initiator.specs.WriteRecord.{holdsOf, startsOf}
-use Rattle.initiator.specs.WriteSend.{liftedOf, reachedOf, lentOf, heldUp, begunOf, keptOf, nextOf, countedOf, answeredOf, ackOf}
+use Rattle.initiator.specs.WriteSend.{liftedOf, reachedOf, lentOf, heldUp, begunOf, keptOf, nextOf, countedOf, confirmedOf, ackOf}
 use Rattle.initiator.specs.declared.types.Writer.{Writer}
 use Rattle.initiator.proofs.WriteHeld.{held, lent}
 use Rattle.initiator.proofs.WriteKept.{starts-well}
@@ -38,12 +40,12 @@ Same s x = refuses (x .says) ≡ true → x .left ≡ s
 step-same : (s : Sender) (d out : List ℕ) → Same s (frameStepOf s d out)
 unfolding frameStepOf
 step-same s d out =
-    picked (Same s) (fitsOf s (length d)) (pick (transmit.waitsOf s) (s saying Said.told Word.wait) (writesOf s d out)) (s saying Said.refused 1)
-    (picked (Same s) (transmit.waitsOf s) (s saying Said.told Word.wait) (writesOf s d out) (λ e. refl) (go (writeAnswer (transmit.dataHeader s) (transmit.partOf s d) out))) (λ e. refl)
+    picked (Same s) (fitsOf s (length d)) (pick (transmit-step.waitsOf s) (s saying Said.word Word.wait) (writesOf s d out)) (s saying Said.refused 1)
+    (picked (Same s) (transmit-step.waitsOf s) (s saying Said.word Word.wait) (writesOf s d out) (λ e. refl) (go (writeAnswer (transmit-step.dataHeader s) (transmit-step.partOf s d) out))) (λ e. refl)
   where
-    go : (a : Outcome ℕ) → Same s (answered s (transmit.sentOf s) a)
-    go (Outcome.value n) e = absurd (false≢true e)
-    go (Outcome.number n) e = refl
+    go : (a : Result ℕ) → Same s (answered s (transmit-step.sentOf s) a)
+    go (Result.value n) e = absurd (false≢true e)
+    go (Result.number n) e = refl
 
 module _ (w : Writer) (d out : List ℕ) (l : lentOf w (length d) ≡ true) (o : w .sender .ended ≡ false) where
   h : holdsOf w ≡ true
@@ -98,22 +100,22 @@ module _ (w : Writer) where
   abbrev some : Bool
   some = not (eqb (w .sender .unanswered) 0)
 
-  entered : entryOf (holdsOf w) (w .sender .ended) ≡ Open → ackOf w ≡ pick (heldUp w) (countedOf w (w .sender .unanswered - 1)) (liftedOf w (answer.ackOf (w .sender)))
-  unfolding answeredOf
+  entered : entryOf (holdsOf w) (w .sender .ended) ≡ Open → ackOf w ≡ pick (heldUp w) (countedOf w (w .sender .unanswered - 1)) (liftedOf w (confirmation.ackOf (w .sender)))
+  unfolding confirmedOf
   entered e = rw e refl
 
-  answers : (x : Entry) → entryOf (holdsOf w) (w .sender .ended) ≡ Open → andSome Open some ≡ x → answer.answersOf (w .sender) ≡ x
-  unfolding answer.answersOf answerableOf
+  answers : (x : Entry) → entryOf (holdsOf w) (w .sender .ended) ≡ Open → andSome Open some ≡ x → confirmation.confirmsOf (w .sender) ≡ x
+  unfolding confirmation.confirmsOf confirmableOf
   answers x e q =
       let o = opened _ _ (sym e) in
       ap (λ (v : Entry). andSome v some) (open-entry _ _ (held w (o .0) .holds) (o .1)) ∙ q
 
-  pub ack-closed : (why : Refusal) → answerableOf (holdsOf w) (w .sender .ended) some ≡ Closed why → ackOf w ≡ (w saying Said.refused (refusalNumber why))
-  unfolding answeredOf answerableOf pick
+  pub ack-closed : (why : Refusal) → confirmableOf (holdsOf w) (w .sender .ended) some ≡ Closed why → ackOf w ≡ (w saying Said.refused (refusalNumber why))
+  unfolding confirmedOf confirmableOf pick
   ack-closed why = go (entryOf (holdsOf w) (w .sender .ended)) refl
     where
       go : (x : Entry) → entryOf (holdsOf w) (w .sender .ended) ≡ x → andSome x some ≡ Closed why → ackOf w ≡ (w saying Said.refused (refusalNumber why))
-      go (Closed y) e q = rw e (ap (λ (v : Entry). unless v w (w saying Said.told Word.wait)) q)
+      go (Closed y) e q = rw e (ap (λ (v : Entry). unless v w (w saying Said.word Word.wait)) q)
       go Open e q = zero (eqb (w .sender .unanswered) 0) refl
         where
           zero : (z : Bool) → eqb (w .sender .unanswered) 0 ≡ z → ackOf w ≡ (w saying Said.refused (refusalNumber why))
@@ -121,16 +123,16 @@ module _ (w : Writer) where
           zero true f =
               let s4 : andSome Open some ≡ Closed AnswerWithoutFrame = rw f refl in
               let u : heldUp w ≡ false = rw f (none-held-up (w .pending)) in
-              let a : answer.answersOf (w .sender) ≡ Closed why = answers (Closed why) e q in
+              let a : confirmation.confirmsOf (w .sender) ≡ Closed why = answers (Closed why) e q in
               entered e ∙ rw (u, a) refl
 
-  pub ack-counted : answerableOf (holdsOf w) (w .sender .ended) some ≡ Open → heldUp w ≡ true → ackOf w ≡ countedOf w (w .sender .unanswered - 1)
+  pub ack-counted : confirmableOf (holdsOf w) (w .sender .ended) some ≡ Open → heldUp w ≡ true → ackOf w ≡ countedOf w (w .sender .unanswered - 1)
   unfolding pick
-  ack-counted e u = let o = answerable _ _ _ (sym e) in entered (open-entry _ _ (o .0) (o .1)) ∙ rw u refl
+  ack-counted e u = let o = confirmable _ _ _ (sym e) in entered (open-entry _ _ (o .0) (o .1)) ∙ rw u refl
 
-  pub ack-lifted : answerableOf (holdsOf w) (w .sender .ended) some ≡ Open → heldUp w ≡ false → ackOf w ≡ liftedOf w (ackStepOf (w .sender))
+  pub ack-lifted : confirmableOf (holdsOf w) (w .sender .ended) some ≡ Open → heldUp w ≡ false → ackOf w ≡ liftedOf w (ackStepOf (w .sender))
   unfolding pick
   ack-lifted e u =
-      let o = answerable _ _ _ (sym e) in
+      let o = confirmable _ _ _ (sym e) in
       let i = open-entry _ _ (o .0) (o .1) in
       entered i ∙ rw (u, answers Open i (rw (o .2) refl)) refl

@@ -1,8 +1,8 @@
 -- The fields of a write's record, each set anew by itself: a definition says only what moves.
 use Prim.Native.Nat.{ℕ}
 use mathlib.Core.Bool.{Bool}
-use Rattle.sender.specs.declared.types.Burst.{Burst}
-use Rattle.sender.specs.declared.types.Sender.{Sender}
+use Rattle.sender_steps.specs.declared.types.Burst.{Burst}
+use Rattle.sender_steps.specs.declared.types.Sender.{Sender}
 use Rattle.initiator.specs.declared.types.Writer.{Writer}
 
 abbrev pub sender≔ : Sender → Writer → Writer

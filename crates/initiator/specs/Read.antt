@@ -6,19 +6,19 @@ use lib.ListN.{take, drop}
 use Rattle.status.specs.Pick.{all, _with_}
 use Rattle.status.specs.Entry.{entryOf}
 use Rattle.status.specs.Answer.{Said, Left, _saying_, unless}
-use Rattle.status.specs.Outcome.{Outcome}
+use Rattle.status.specs.Result.{Result}
 use Rattle.status.specs.declared.answer.Opened.{Opened}
 use Rattle.frame.specs.XferRdy.{xferRdyOf}
 use Rattle.frame.specs.Response.{responseIuOf}
 use Rattle.frame.specs.declared.types.XferRdy.{XferRdy}
 use Rattle.arrival.specs.Accept.{acceptOf}
 use Rattle.arrival.specs.declared.Role.the-variants.{ReadInitiator}
-use Rattle.arrival.specs.declared.Kind.{Kind}
+use Rattle.arrival.specs.declared.Class.{Class}
 use Rattle.arrival.specs.declared.Arrived.{Arrived}
-use Rattle.receiver.specs.Fields.{ended≔}
-use Rattle.receiver.specs.Record.{holdsOf, failedOf}
-use Rattle.receiver.specs.DataFrame.{lentOf, arrivalOf}
-use Rattle.receiver.specs.declared.types.Receiver.{Receiver}
+use Rattle.receiver_steps.specs.Fields.{ended≔}
+use Rattle.receiver_steps.specs.Record.{holdsOf, failedOf, lentOf}
+use Rattle.receiver.specs.DataFrame.{arrivalOf}
+use Rattle.receiver_steps.specs.declared.types.Receiver.{Receiver}
 
 -- 1 as for the receiving port; the record is a read's
 abbrev pub readTests : Bool → Receiver → List Bool
@@ -32,31 +32,31 @@ unfoldable pub readLentOf : Receiver → ℕ → Bool
 readLentOf r m = all (readTests (lentOf r m) r)
 
 -- 23, 24, then "an XFER_RDY in a read command is 27"
-abbrev pub rejectedBy : Outcome XferRdy → Receiver → Left Receiver
-rejectedBy (Outcome.number n) r = failedOf r n
-rejectedBy (Outcome.value x) r = failedOf r 27
+abbrev pub rejectedBy : Result XferRdy → Receiver → Left Receiver
+rejectedBy (Result.number n) r = failedOf r n
+rejectedBy (Result.value x) r = failedOf r 27
 
 unfoldable pub notExpectedOf : Receiver → List ℕ → Left Receiver
 notExpectedOf r iu = rejectedBy (xferRdyOf iu) r
 
 -- 32, 34, else "a RESPONSE ends the command", and what its IU says comes back (request K9)
-abbrev pub openedBy : Outcome Opened → Receiver → ℕ → ℕ → Left Receiver
-openedBy (Outcome.number n) r start len = failedOf r n
-openedBy (Outcome.value o) r start len = (r with ended≔ true) saying Said.response start len o 0
+abbrev pub openedBy : Result Opened → Receiver → ℕ → ℕ → Left Receiver
+openedBy (Result.number n) r start len = failedOf r n
+openedBy (Result.value o) r start len = (r with ended≔ true) saying Said.response start len o 0
 
 unfoldable pub responseOf : Receiver → ℕ → ℕ → List ℕ → Left Receiver
 responseOf r start len iu = openedBy (responseIuOf iu) r start len
 
 -- a frame f that has passed 5 to 8, by what it is taken for, at a buffer of m bytes
-abbrev pub takenOf : Kind → Receiver → Arrived → List ℕ → ℕ → Left Receiver
-takenOf Kind.Data r a f m = arrivalOf r (a .header .offset) (a .header .flags .cdp) (a .len) m
-takenOf Kind.XferRdy r a f m = notExpectedOf r (take (a .len) (drop (a .start) f))
-takenOf Kind.Response r a f m = responseOf r (a .start) (a .len) (take (a .len) (drop (a .start) f))
-takenOf Kind.Other r a f m = r saying Said.refused 6
+abbrev pub takenOf : Class → Receiver → Arrived → List ℕ → ℕ → Left Receiver
+takenOf Class.Data r a f m = arrivalOf r (a .header .offset) (a .header .flags .cdp) (a .len) m
+takenOf Class.XferRdy r a f m = notExpectedOf r (take (a .len) (drop (a .start) f))
+takenOf Class.Response r a f m = responseOf r (a .start) (a .len) (take (a .len) (drop (a .start) f))
+takenOf Class.Other r a f m = r saying Said.refused 6
 
-abbrev pub arrivedBy : Outcome Arrived → Receiver → List ℕ → ℕ → Left Receiver
-arrivedBy (Outcome.number n) r f m = r saying Said.refused n
-arrivedBy (Outcome.value a) r f m = takenOf (a .kind) r a f m
+abbrev pub arrivedBy : Result Arrived → Receiver → List ℕ → ℕ → Left Receiver
+arrivedBy (Result.number n) r f m = r saying Said.refused n
+arrivedBy (Result.value a) r f m = takenOf (a .class) r a f m
 
 -- "The order is 1, 2, then by event"
 unfoldable pub readArrivalOf : Receiver → List ℕ → ℕ → Left Receiver

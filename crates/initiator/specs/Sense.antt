@@ -4,9 +4,9 @@ use mathlib.Core.Bool.{true, false}
 use mathlib.Core.List.{List}
 use mathlib.Core.Path.{_≡_}
 use lib.ListN.{length}
-use Rattle.status.specs.Pick.{_with_}
-use Rattle.status.specs.Answer.{Said, _saying_}
-use Rattle.status.specs.Outcome.{Outcome}
+use Rattle.status.specs.Pick.{ifAny, _with_}
+use Rattle.status.specs.Answer.{Said, view, _saying_}
+use Rattle.status.specs.Result.{Result}
 use Rattle.frame.specs.Format.{RESPONSE, encode}
 use Rattle.frame.specs.Write.{writable}
 use Rattle.frame.specs.Read.{iuOf}
@@ -16,8 +16,8 @@ use Rattle.frame.specs.Response.{responseIuOf, senseOf}
 use Rattle.frame.specs.ResponseForms.{Form}
 use Rattle.frame.specs.declared.types.Header.{Header}
 use Rattle.transfer.specs.declared.Transfer.{Transfer}
-use Rattle.receiver.specs.Fields.{ended≔}
-use Rattle.receiver.specs.declared.types.Receiver.{Receiver}
+use Rattle.receiver_steps.specs.Fields.{ended≔}
+use Rattle.receiver_steps.specs.declared.types.Receiver.{Receiver}
 use Rattle.initiator.specs.Read.{readLentOf, readArrivalOf}
 use Rattle.initiator.specs.WriteRecord.{holdsOf}
 use Rattle.initiator.specs.WriteTake.{endedOf, writeArrivalOf}
@@ -25,27 +25,11 @@ use Rattle.initiator.specs.declared.types.Writer.{Writer}
 
 -- the part of the frame f that the answer to its arrival speaks of: the sense data of the IU that stands there
 abbrev pub senseIn : Said → List ℕ → Lent
-senseIn (Said.response start len o n) f = within (partOf f start len) (senseOf o)
-senseIn (Said.refused n) f = none
-senseIn (Said.failed n k) f = none
-senseIn (Said.frame n) f = none
-senseIn (Said.delivered n) f = none
-senseIn Said.stored f = none
-senseIn Said.received f = none
-senseIn (Said.burst t) f = none
-senseIn (Said.told w) f = none
+senseIn a f = ifAny (view a .response) (λ r. within (partOf f (r .start) (r .len)) (senseOf (r .opened))) none
 
--- a RESPONSE that is told is the frame's: its IU stands there, behind the header, and says so
+-- a RESPONSE in the answer is the frame's: its IU stands there, behind the header, and says so
 abbrev pub Stands : Said → List ℕ → Type 0
-Stands (Said.response start len o n) f = (start ≡ 24) × (partOf f start len .bytes ≡ iuOf f) × (len ≡ length (iuOf f)) × (responseIuOf (iuOf f) ≡ Outcome.value o)
-Stands (Said.refused n) f = Unit {0}
-Stands (Said.failed n k) f = Unit {0}
-Stands (Said.frame n) f = Unit {0}
-Stands (Said.delivered n) f = Unit {0}
-Stands Said.stored f = Unit {0}
-Stands Said.received f = Unit {0}
-Stands (Said.burst t) f = Unit {0}
-Stands (Said.told w) f = Unit {0}
+Stands a f = ifAny (view a .response) (λ r. (r .start ≡ 24) × (partOf f (r .start) (r .len) .bytes ≡ iuOf f) × (r .len ≡ length (iuOf f)) × (responseIuOf (iuOf f) ≡ Result.value (r .opened))) (Unit {0})
 
 -- (a) of any record and any bytes
 abbrev pub ReadStands : Type 0
@@ -58,22 +42,22 @@ WriteStands = (w : Writer) (f : List ℕ) → Stands (writeArrivalOf w f .says) 
 -- (a) and (b) are proved in proofs/SenseBack.antt
 pub record Comes (t : Transfer) (h : Header) (n : ℕ) : Type 0 where
   -- the frame's type
-  pub kind : h .kind ≡ RESPONSE
+  pub frametype : h .frametype ≡ RESPONSE
   pub dest : h .dest ≡ t .local
   pub source : h .source ≡ t .remote
   pub tag : h .tag ≡ t .tag
   pub range : InRange h
   pub written : writable h n ≡ true
 
-abbrev pub told : List ℕ → ℕ → ℕ → List ℕ → ℕ → Said
-told iu k s d n = Said.response 24 (length iu) (record { kind = k; status = s; sense = length d }) n
+abbrev pub opensWith : List ℕ → ℕ → ℕ → List ℕ → ℕ → Said
+opensWith iu k s d n = Said.response 24 (length iu) (record { kind = k; status = s; sense = length d }) n
 
 abbrev pub ReadOpens : Type 0
 ReadOpens =
     (r : Receiver) (h : Header) (iu : List ℕ) (m k s : ℕ) (d : List ℕ) → readLentOf r m ≡ true → r .ended ≡ false → Comes (r .transfer) h (length iu) → Form iu k s d →
-    (readArrivalOf r (encode h iu) m ≡ ((r with ended≔ true) saying told iu k s d 0)) × (senseIn (told iu k s d 0) (encode h iu) .bytes ≡ d)
+    (readArrivalOf r (encode h iu) m ≡ ((r with ended≔ true) saying opensWith iu k s d 0)) × (senseIn (opensWith iu k s d 0) (encode h iu) .bytes ≡ d)
 
 abbrev pub WriteOpens : Type 0
 WriteOpens =
     (w : Writer) (h : Header) (iu : List ℕ) (k s : ℕ) (d : List ℕ) → holdsOf w ≡ true → w .sender .ended ≡ false → Comes (w .sender .transfer) h (length iu) → Form iu k s d →
-    (writeArrivalOf w (encode h iu) ≡ (endedOf w saying told iu k s d (w .sender .frames))) × (senseIn (told iu k s d (w .sender .frames)) (encode h iu) .bytes ≡ d)
+    (writeArrivalOf w (encode h iu) ≡ (endedOf w saying opensWith iu k s d (w .sender .frames))) × (senseIn (opensWith iu k s d (w .sender .frames)) (encode h iu) .bytes ≡ d)

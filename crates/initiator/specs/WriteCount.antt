@@ -1,25 +1,17 @@
 -- The count of a write's burst is the length of its history of frames, "since its write burst began".
 use Prim.Native.Nat.{ℕ}
 use mathlib.Core.List.{List, []}
-use mathlib.Core.Bool.{Bool, true, false, not, _&&_, _||_}
+use mathlib.Core.Bool.{Bool, not, _&&_, _||_}
 use mathlib.Core.Path.{_≡_}
 use lib.ListN.{length}
 use Rattle.status.specs.Pick.{pick}
-use Rattle.status.specs.Answer.{Said, Left}
-use Rattle.sender.specs.Count.{history, Tells}
+use Rattle.status.specs.Answer.{Said, view, Left}
+use Rattle.sender_steps.specs.Count.{history, Tells}
 use Rattle.initiator.specs.declared.types.Writer.{Writer}
 
 -- an XFER_RDY was taken
 abbrev pub takes : Said → Bool
-takes (Said.burst t) = true
-takes (Said.refused n) = false
-takes (Said.failed n k) = false
-takes (Said.frame n) = false
-takes (Said.delivered n) = false
-takes Said.stored = false
-takes Said.received = false
-takes (Said.response start len o n) = false
-takes (Said.told w) = false
+takes a = view a .takes
 
 -- a burst started in this call: the one that was pending, or the one that was taken now
 abbrev pub began : Writer → Left Writer → Bool

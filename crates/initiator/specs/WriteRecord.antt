@@ -5,12 +5,12 @@ use lib.Dec.{leb}
 use Rattle.status.specs.Pick.{all}
 use Rattle.status.specs.Number.{refusalNumber}
 use Rattle.status.specs.Answer.{says, Left, _saying_}
-use Rattle.status.specs.Outcome.{Outcome, granted}
+use Rattle.status.specs.Result.{Result, granted}
 use Rattle.transfer.specs.Limits.{limitsHold}
 use Rattle.transfer.specs.declared.Transfer.{Transfer}
-use Rattle.sender.specs.Record.{beginning}
-use Rattle.sender.specs.Record as sender
-use Rattle.sender.specs.declared.types.Burst.{Burst}
+use Rattle.sender_steps.specs.Record.{beginning}
+use Rattle.sender_steps.specs.Record as sender
+use Rattle.sender_steps.specs.declared.types.Burst.{Burst}
 use Rattle.initiator.specs.declared.types.Writer.{Writer}
 use Rattle.initiator.specs.declared.types.WriteStepped.{WriteStepped}
 use Rattle.initiator.specs.declared.types.WriteSetup.{WriteSetup}
@@ -45,13 +45,13 @@ startOf t = beginsOf t (record { base = 0; end = 0; tptt = 0; limit = t .limit }
 abbrev pub setUpTests : Transfer → List Bool
 setUpTests t = limitsHold t ∷ t .write ∷ []
 
-abbrev pub setUpWriteOf : Transfer → Outcome Writer
+abbrev pub setUpWriteOf : Transfer → Result Writer
 setUpWriteOf t = granted (all (setUpTests t)) (startOf t)
 
 -- what the set-up answers: the record, or a number
-abbrev pub made : WriteSetup → Outcome Writer
-made (Ready w) = Outcome.value w
-made (Refused why) = Outcome.number (refusalNumber why)
+abbrev pub made : WriteSetup → Result Writer
+made (Ready w) = Result.value w
+made (Refused why) = Result.number (refusalNumber why)
 
 -- what an event leaves and answers
 abbrev pub stepped : WriteStepped → Left Writer

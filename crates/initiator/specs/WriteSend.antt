@@ -1,4 +1,4 @@
--- A write command's frames asked for and the answers to them, over the sending port.
+-- A write command's frames asked for and their confirmations, over the sending port.
 use Prim.Native.Nat.{ℕ, _-_, max}
 use mathlib.Core.List.{List, [], _∷_}
 use mathlib.Core.Bool.{Bool, not, _&&_}
@@ -7,10 +7,10 @@ use lib.Dec.{eqb}
 use Rattle.status.specs.Pick.{pick, all, _with_}
 use Rattle.status.specs.Entry.{entryOf}
 use Rattle.status.specs.Answer.{Word, Said, Left, _saying_, refuses, unless}
-use Rattle.sender.specs.Fields.{unanswered≔}
+use Rattle.sender_steps.specs.Fields.{unanswered≔}
 use Rattle.sender.specs.Transmit as transmit
-use Rattle.sender.specs.Answer as answer
-use Rattle.sender.specs.declared.types.Sender.{Sender}
+use Rattle.sender.specs.Confirmation as confirmation
+use Rattle.sender_steps.specs.declared.types.Sender.{Sender}
 use Rattle.initiator.specs.Fields.{sender≔, reached≔}
 use Rattle.initiator.specs.WriteRecord.{holdsOf, startsOf}
 use Rattle.initiator.specs.declared.types.Writer.{Writer}
@@ -45,29 +45,29 @@ keptOf w y = pick (refuses (y .says)) (w saying y .says) y
 unfoldable pub nextOf : Writer → List ℕ → List ℕ → Left Writer
 nextOf w d out =
     unless (entryOf (lentOf w (length d)) (w .sender .ended)) w
-    (pick (heldUp w) (w saying Said.told Word.wait) (keptOf w (reachedOf (begunOf w) (transmit.nextOf (begunOf w .sender) d out))))
+    (pick (heldUp w) (w saying Said.word Word.wait) (keptOf w (reachedOf (begunOf w) (transmit.nextOf (begunOf w .sender) d out))))
 
 -- "answers, timeout or cut only lower or clear the count, with no retry and no failure": n is the count then, and at zero the burst starts
 unfoldable pub countedOf : Writer → ℕ → Left Writer
 countedOf w n =
-    pick (eqb n 0) (startsOf w) (w with sender≔ (w .sender with unanswered≔ n)) saying Said.told Word.taken
+    pick (eqb n 0) (startsOf w) (w with sender≔ (w .sender with unanswered≔ n)) saying Said.word Word.taken
 
--- an answer, timeout or cut: the sending port's step, or, while a taken burst waits, the count left
-unfoldable pub answeredOf : Writer → Left Sender → ℕ → Left Writer
-answeredOf w step n = unless (entryOf (holdsOf w) (w .sender .ended)) w (pick (heldUp w) (countedOf w n) (liftedOf w step))
+-- a confirmation: the sending port's step, or, while a taken burst waits, the count left
+unfoldable pub confirmedOf : Writer → Left Sender → ℕ → Left Writer
+confirmedOf w step n = unless (entryOf (holdsOf w) (w .sender .ended)) w (pick (heldUp w) (countedOf w n) (liftedOf w step))
 
 abbrev pub ackOf : Writer → Left Writer
-ackOf w = answeredOf w (answer.ackOf (w .sender)) (w .sender .unanswered - 1)
+ackOf w = confirmedOf w (confirmation.ackOf (w .sender)) (w .sender .unanswered - 1)
 
 abbrev pub nakOf : Writer → Left Writer
-nakOf w = answeredOf w (answer.nakOf (w .sender)) (w .sender .unanswered - 1)
+nakOf w = confirmedOf w (confirmation.nakOf (w .sender)) (w .sender .unanswered - 1)
 
 abbrev pub timeoutOf : Writer → Left Writer
-timeoutOf w = answeredOf w (answer.timeoutOf (w .sender)) 0
+timeoutOf w = confirmedOf w (confirmation.timeoutOf (w .sender)) 0
 
 abbrev pub cutOf : Writer → Left Writer
-cutOf w = answeredOf w (answer.cutOf (w .sender)) 0
+cutOf w = confirmedOf w (confirmation.cutOf (w .sender)) 0
 
 -- "31: reported by the port layer"
 abbrev pub lossOf : Writer → Left Writer
-lossOf w = unless (entryOf (holdsOf w) (w .sender .ended)) w (liftedOf w (answer.lossOf (w .sender)))
+lossOf w = unless (entryOf (holdsOf w) (w .sender .ended)) w (liftedOf w (confirmation.lossOf (w .sender)))

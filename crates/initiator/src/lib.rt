@@ -1,4 +1,4 @@
-// The initiator port: what arrives at the host, and what it sends in a write command. A read's record is the receiving port's own (crate receiver).
+// The initiator port: what arrives at the host, and what it sends in a write command. Every function here is an entry point; `sense_data` takes no record.
 mod read;
 mod sense;
 mod types;
@@ -8,12 +8,15 @@ mod write_take;
 
 pub use read::read_frame_received;
 pub use read::read_nexus_lost;
+pub use receiver::ReadSetup;
+pub use receiver::Receiver;
+pub use receiver::Stepped as ReadStepped;
+pub use receiver::set_up_read;
 pub use sense::sense_data;
 pub use types::WriteSetup;
 pub use types::WriteStepped;
 pub use types::Writer;
 pub use write_record::set_up_write;
-pub use write_record::writer_holds;
 pub use write_send::write_ack_nak_timeout;
 pub use write_send::write_ack_received;
 pub use write_send::write_connection_lost;

@@ -3,16 +3,14 @@ ghost use mathlib.Core.Path.{_≡_};
 ghost use mathlib.Core.Bool.{true, false};
 ghost use Prim.Native.Nat.{_+_, _≤_};
 ghost use lib.ListN.{length, take, drop};
-ghost use Rattle.status.specs.Number.{refusalNumber, failureNumber};
-ghost use Rattle.status.specs.Answer.{Said, _saying_};
-ghost use Rattle.status.specs.Outcome.{Outcome};
+ghost use Rattle.status.specs.Result.{Result};
 ghost use Rattle.frame.specs.Read.{headerIn, iuOf};
-ghost use Rattle.receiver.specs.Record.{stepped, failedOf};
-ghost use Rattle.receiver.specs.DataFrame.{lentOf, storing};
+ghost use Rattle.receiver_steps.specs.Record.{stepped, failedOf, lentOf};
+ghost use Rattle.receiver_steps.specs.DataFrame.{storing};
 ghost use Rattle.initiator.specs.Read.{notExpectedOf, openedBy, responseOf, takenOf, readArrivalOf, readLossOf};
 use arrival::Accepted;
 use arrival::Arrived;
-use arrival::Kind;
+use arrival::Class;
 use arrival::Role;
 use frame::ResponseIu;
 use frame::XferRdyIu;
@@ -25,40 +23,19 @@ use status::Opened;
 use status::Part;
 use status::Refusal;
 
-// A refusal leaves the record as it was.
-fn refused(r: Receiver, why: Refusal) -> Stepped
-    ensures { λ x. ⌜ stepped x ≡ (r saying Said.refused (refusalNumber why)) ⌝ }
-{
-    Stepped {
-        receiver: r,
-        answer: Answer::Refused(why),
-    }
-}
-
-// A failure ends the port.
-fn failed(mut r: Receiver, why: Failure) -> Stepped
-    ensures { λ x. ⌜ stepped x ≡ failedOf r (failureNumber why) ⌝ }
-{
-    r.ended = true;
-    Stepped {
-        receiver: r,
-        answer: Answer::Failed(why, 0),
-    }
-}
-
 // An XFER_RDY in a read: 23, 24, then 27.
 fn not_expected(r: Receiver, iu: &[u8]) -> Stepped
     ensures { λ x. ⌜ stepped x ≡ notExpectedOf r (now (iu .entry)) ⌝ }
 {
     match frame::read_xfer_rdy(iu) {
-        XferRdyIu::Failed(why) => failed(r, why),
-        XferRdyIu::Taken(_) => failed(r, Failure::XferRdyNotExpected),
+        XferRdyIu::Failed(why) => receiver_steps::failed(r, why),
+        XferRdyIu::Taken(_) => receiver_steps::failed(r, Failure::XferRdyNotExpected),
     }
 }
 
 // The command has ended, with what the RESPONSE says.
 fn opened(mut r: Receiver, iu: Part, o: Opened) -> Stepped
-    ensures { λ x. ⌜ stepped x ≡ openedBy (Outcome.value o) r (iu .start) (iu .len) ⌝ }
+    ensures { λ x. ⌜ stepped x ≡ openedBy (Result.value o) r (iu .start) (iu .len) ⌝ }
 {
     r.ended = true;
     Stepped {
@@ -76,7 +53,7 @@ fn response(r: Receiver, at: Part, iu: &[u8]) -> Stepped
     ensures { λ x. ⌜ stepped x ≡ responseOf r (at .start) (at .len) (now (iu .entry)) ⌝ }
 {
     match frame::read_response(iu) {
-        ResponseIu::Failed(why) => failed(r, why),
+        ResponseIu::Failed(why) => receiver_steps::failed(r, why),
         ResponseIu::Taken(o) => opened(r, at, o),
     }
 }
@@ -84,9 +61,9 @@ fn response(r: Receiver, at: Part, iu: &[u8]) -> Stepped
 // Behind 1 and 2, a frame that has passed 5 to 8.
 fn take(r: Receiver, a: Arrived, bytes: &[u8], buffer: &mut [u8]) -> Stepped
     requires { ⌜ (a .start + a .len ≤ length (now bytes)) × (lentOf r (length (now buffer)) ≡ true) × (r .ended ≡ false) ⌝ }
-    ensures { λ x. ⌜ (stepped x ≡ takenOf (a .kind) r a (now (bytes .entry)) (length (now (buffer .entry)))) × (now (buffer .exit) ≡ storing (takenOf (a .kind) r a (now (bytes .entry)) (length (now (buffer .entry))) .says) (a .header .offset) (take (a .len) (drop (a .start) (now (bytes .entry)))) (now (buffer .entry))) ⌝ }
+    ensures { λ x. ⌜ (stepped x ≡ takenOf (a .class) r a (now (bytes .entry)) (length (now (buffer .entry)))) × (now (buffer .exit) ≡ storing (takenOf (a .class) r a (now (bytes .entry)) (length (now (buffer .entry))) .says) (a .header .offset) (take (a .len) (drop (a .start) (now (bytes .entry)))) (now (buffer .entry))) ⌝ }
 {
-    let kind = a.kind;
+    let class = a.class;
     let h = a.header;
     let start = a.start;
     let past = start + a.len;
@@ -95,14 +72,14 @@ fn take(r: Receiver, a: Arrived, bytes: &[u8], buffer: &mut [u8]) -> Stepped
         start: start,
         len: a.len,
     };
-    match kind {
-        Kind::Data => {
+    match class {
+        Class::Data => {
             let flags = h.flags;
-            receiver::data_step(r, h.offset, flags.cdp, iu, buffer)
+            receiver_steps::data_step(r, h.offset, flags.cdp, iu, buffer)
         }
-        Kind::XferRdy => not_expected(r, iu),
-        Kind::Response => response(r, at, iu),
-        Kind::Other => refused(r, Refusal::UnexpectedFrameType),
+        Class::XferRdy => not_expected(r, iu),
+        Class::Response => response(r, at, iu),
+        Class::Other => receiver_steps::refused(r, Refusal::UnexpectedFrameType),
     }
 }
 
@@ -111,12 +88,12 @@ fn take(r: Receiver, a: Arrived, bytes: &[u8], buffer: &mut [u8]) -> Stepped
 pub fn read_frame_received(r: Receiver, bytes: &[u8], buffer: &mut [u8]) -> Stepped
     ensures { λ x. ⌜ (stepped x ≡ readArrivalOf r (now (bytes .entry)) (length (now (buffer .entry)))) × (now (buffer .exit) ≡ storing (readArrivalOf r (now (bytes .entry)) (length (now (buffer .entry))) .says) (headerIn (now (bytes .entry)) .offset) (iuOf (now (bytes .entry))) (now (buffer .entry))) ⌝ }
 {
-    let lent = receiver::lent(r, buffer.len());
+    let lent = receiver_steps::lent(r, buffer.len());
     let t = r.transfer;
     match status::admit(lent & !t.write, r.ended) {
-        Entry::Closed(why) => refused(r, why),
+        Entry::Closed(why) => receiver_steps::refused(r, why),
         Entry::Open => match arrival::accept(Role::ReadInitiator, t, bytes) {
-            Accepted::Refused(why) => refused(r, why),
+            Accepted::Refused(why) => receiver_steps::refused(r, why),
             Accepted::Frame(a) => take(r, a, bytes, buffer),
         },
     }
@@ -126,10 +103,10 @@ pub fn read_frame_received(r: Receiver, bytes: &[u8], buffer: &mut [u8]) -> Step
 pub fn read_nexus_lost(r: Receiver) -> Stepped
     ensures { λ x. ⌜ stepped x ≡ readLossOf r ⌝ }
 {
-    let holds = receiver::holds(r);
+    let holds = receiver_steps::holds(r);
     let t = r.transfer;
     match status::admit(holds & !t.write, r.ended) {
-        Entry::Closed(why) => refused(r, why),
-        Entry::Open => failed(r, Failure::NexusLoss),
+        Entry::Closed(why) => receiver_steps::refused(r, why),
+        Entry::Open => receiver_steps::failed(r, Failure::NexusLoss),
     }
 }

@@ -28,7 +28,7 @@ pub enum WriteSetup {
 }
 
 // Whether an XFER_RDY is taken.
-pub(crate) enum Verdict {
+pub(crate) enum XferRdyDisposition {
     // for the next burst
     Next,
     // for the burst taken last, again

@@ -12,14 +12,14 @@ use status::Refusal;
 use transfer::Transfer;
 
 // Number 1 does not apply: limits, marks and counts are in order.
-pub fn writer_holds(w: Writer) -> bool
+pub(crate) fn writer_holds(w: Writer) -> bool
     ensures { λ r. ⌜ r ≡ holdsOf w ⌝ }
 {
     let s = w.sender;
     let t = s.transfer;
     let b = s.burst;
     let n = w.taken;
-    let core = sender::holds(s);
+    let core = sender_steps::holds(s);
     core
         & t.write
         & (s.next <= w.reached)
@@ -43,7 +43,7 @@ pub(crate) fn refused(w: Writer, why: Refusal) -> WriteStepped
 pub(crate) fn begin(t: Transfer, b: Burst) -> Writer
     ensures { λ r. ⌜ r ≡ beginsOf t b ⌝ }
 {
-    let s = sender::begin(t, b);
+    let s = sender_steps::begin(t, b);
     let none = Burst {
         base: 0,
         end: 0,

@@ -1,14 +1,13 @@
-// A write command's frames asked for, and the answers to them, over the sending port.
+// A write command's frames asked for, and their confirmations, over the sending port.
 ghost use mathlib.Core.Path.{_≡_};
 ghost use mathlib.Core.List.{[]};
 ghost use Prim.Native.Nat.{max};
 ghost use Rattle.frame.specs.Write.{handing};
-ghost use Rattle.sender.specs.Record as sender;
-ghost use Rattle.sender.specs.Transmit.{frameOf};
-ghost use Rattle.sender.specs.Step.{frameStepOf};
+ghost use Rattle.sender_steps.specs.Record as sender;
+ghost use Rattle.sender_steps.specs.Transmit.{frameOf, frameStepOf};
 ghost use Rattle.initiator.specs.WriteRecord.{startsOf, stepped};
 ghost use Rattle.initiator.specs.WriteCount.{Counts};
-ghost use Rattle.initiator.specs.WriteSend.{liftedOf, reachedOf, lentOf, heldUp, begunOf, keptOf, nextOf, countedOf, answeredOf, ackOf, nakOf, timeoutOf, cutOf, lossOf};
+ghost use Rattle.initiator.specs.WriteSend.{liftedOf, reachedOf, lentOf, heldUp, begunOf, keptOf, nextOf, countedOf, confirmedOf, ackOf, nakOf, timeoutOf, cutOf, lossOf};
 use crate::types::WriteStepped;
 use crate::types::Writer;
 use crate::write_record;
@@ -96,10 +95,10 @@ fn first(w: Writer, buffer: &[u8], out: &mut [u8]) -> WriteStepped
 {
     let v = start(w);
     let s = v.sender;
-    keep(w, reach(v, sender::frame_step(s, buffer, out)))
+    keep(w, reach(v, sender_steps::frame_step(s, buffer, out)))
 }
 
-// 1, 2; wait (also while a taken burst waits for answers); 3, else a frame of that length.
+// 1, 2; wait (also while a taken burst waits for confirmations); 3, else a frame of that length.
 pub fn write_next_frame(w: Writer, buffer: &[u8], out: &mut [u8]) -> WriteStepped
     ensures { λ r. ⌜ (stepped r ≡ nextOf w (now (buffer .entry)) (now (out .entry))) × (now (out .exit) ≡ handing (nextOf w (now (buffer .entry)) (now (out .entry)) .says) (frameOf (begunOf w .sender) (now (buffer .entry))) (now (out .entry))) × Counts w (frameOf (begunOf w .sender) (now (buffer .entry))) (stepped r) ⌝ }
 {
@@ -118,7 +117,7 @@ pub fn write_next_frame(w: Writer, buffer: &[u8], out: &mut [u8]) -> WriteSteppe
                     first(w, buffer, out)
                 } else {
                     let s = w.sender;
-                    reach(w, sender::frame_step(s, buffer, out))
+                    reach(w, sender_steps::frame_step(s, buffer, out))
                 }
             }
         }
@@ -145,8 +144,8 @@ fn counted(mut w: Writer, n: u32) -> WriteStepped
 }
 
 // 1, 2; then the sending port's step, or, while a taken burst waits, the count left.
-fn answered(w: Writer, step: Stepped, n: u32) -> WriteStepped
-    ensures { λ r. ⌜ stepped r ≡ answeredOf w (sender.stepped step) n ⌝ }
+fn confirmed(w: Writer, step: Stepped, n: u32) -> WriteStepped
+    ensures { λ r. ⌜ stepped r ≡ confirmedOf w (sender.stepped step) n ⌝ }
 {
     let ok = write_record::writer_holds(w);
     let ended = w.sender.ended;
@@ -168,13 +167,13 @@ pub fn write_ack_received(w: Writer) -> WriteStepped
 {
     let ok = write_record::writer_holds(w);
     let s = w.sender;
-    match status::answerable(ok, s.ended, s.unanswered != 0) {
+    match status::confirmable(ok, s.ended, s.unanswered != 0) {
         Entry::Closed(why) => write_record::refused(w, why),
         Entry::Open => {
             if held_up(w) {
-                counted(w, sender::less_one(s.unanswered))
+                counted(w, sender_steps::less_one(s.unanswered))
             } else {
-                lift(w, sender::ack_step(s))
+                lift(w, sender_steps::ack_step(s))
             }
         }
     }
@@ -185,8 +184,8 @@ pub fn write_nak_received(w: Writer) -> WriteStepped
     ensures { λ r. ⌜ (stepped r ≡ nakOf w) × Counts w [] (stepped r) ⌝ }
 {
     let s = w.sender;
-    let n = sender::less_one(s.unanswered);
-    answered(w, sender::nak_received(s), n)
+    let n = sender_steps::less_one(s.unanswered);
+    confirmed(w, sender::nak_received(s), n)
 }
 
 // 1, 2, 4; a burst is taken: taken; else retry, 28 (a NAK is pending) or 29.
@@ -194,7 +193,7 @@ pub fn write_ack_nak_timeout(w: Writer) -> WriteStepped
     ensures { λ r. ⌜ (stepped r ≡ timeoutOf w) × Counts w [] (stepped r) ⌝ }
 {
     let s = w.sender;
-    answered(w, sender::ack_nak_timeout(s), 0)
+    confirmed(w, sender::ack_nak_timeout(s), 0)
 }
 
 // 1, 2; unchanged; a burst is taken: taken; else retry, 28 (a NAK is pending) or 30.
@@ -202,7 +201,7 @@ pub fn write_connection_lost(w: Writer) -> WriteStepped
     ensures { λ r. ⌜ (stepped r ≡ cutOf w) × Counts w [] (stepped r) ⌝ }
 {
     let s = w.sender;
-    answered(w, sender::connection_lost(s), 0)
+    confirmed(w, sender::connection_lost(s), 0)
 }
 
 // 1, 2, else 31.

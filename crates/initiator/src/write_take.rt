@@ -6,19 +6,19 @@ ghost use Prim.Native.Nat.{_+_, _^_, _≤_, _<_};
 ghost use lib.Dec.{ltb};
 ghost use lib.ListN.{length, take};
 ghost use Rattle.status.specs.Answer.{says};
-ghost use Rattle.status.specs.Outcome.{Outcome};
+ghost use Rattle.status.specs.Result.{Result};
 ghost use Rattle.status.specs.Number.{failureNumber};
 ghost use Rattle.transfer.specs.Limits.{limitsHold};
 ghost use Rattle.initiator.specs.WriteRecord.{stepped};
 ghost use Rattle.initiator.specs.WriteCount.{Counts};
-ghost use Rattle.initiator.specs.WriteTake.{endedOf, failedOf, previous, allHanded, fitsOf, repeatOf, verdictOf, limitOf, askedOf, nextTaken, burstTaken, xferRdyTaken, openedBy, responseOf, takenOf, writeArrivalOf};
-use crate::types::Verdict;
+ghost use Rattle.initiator.specs.WriteTake.{endedOf, failedOf, previous, allHanded, fitsOf, repeatOf, dispositionOf, limitOf, askedOf, nextTaken, burstTaken, xferRdyTaken, openedBy, responseOf, takenOf, writeArrivalOf};
 use crate::types::WriteStepped;
 use crate::types::Writer;
+use crate::types::XferRdyDisposition;
 use crate::write_record;
 use arrival::Accepted;
 use arrival::Arrived;
-use arrival::Kind;
+use arrival::Class;
 use arrival::Role;
 use frame::Header;
 use frame::ResponseIu;
@@ -78,29 +78,29 @@ fn all_handed(w: Writer) -> bool
     }
 }
 
-// 25, else the verdict v.
-fn fits(w: Writer, x: XferRdy, v: Verdict) -> Verdict
+// 25, else the disposition v.
+fn fits(w: Writer, x: XferRdy, v: XferRdyDisposition) -> XferRdyDisposition
     ensures { λ r. ⌜ r ≡ fitsOf w x v ⌝ }
 {
     let t = w.sender.transfer;
     let past = (x.offset as u64) + (x.len as u64);
     if (x.len == 0) | ((t.count as u64) < past) {
-        Verdict::Fail(Failure::XferRdyIncorrectWriteDataLength)
+        XferRdyDisposition::Fail(Failure::XferRdyIncorrectWriteDataLength)
     } else {
         v
     }
 }
 
 // 25 where its length is not that of the burst it repeats, else as it fits.
-fn repeated(w: Writer, x: XferRdy) -> Verdict
+fn repeated(w: Writer, x: XferRdy) -> XferRdyDisposition
     ensures { λ r. ⌜ r ≡ repeatOf w x ⌝ }
 {
     let p = previous(w);
     let past = (p.base as u64) + (x.len as u64);
     if past == (p.end as u64) {
-        return fits(w, x, Verdict::Repeat);
+        return fits(w, x, XferRdyDisposition::Repeat);
     }
-    Verdict::Fail(Failure::XferRdyIncorrectWriteDataLength)
+    XferRdyDisposition::Fail(Failure::XferRdyIncorrectWriteDataLength)
 }
 
 // There is a burst to repeat: before any is taken the record has an empty one.
@@ -111,8 +111,8 @@ fn repeatable(p: Burst) -> bool
 }
 
 // 27, 26, then 25.
-fn judge(w: Writer, x: XferRdy, retransmit: bool) -> Verdict
-    ensures { λ r. ⌜ r ≡ verdictOf w x retransmit ⌝ }
+fn judge(w: Writer, x: XferRdy, retransmit: bool) -> XferRdyDisposition
+    ensures { λ r. ⌜ r ≡ dispositionOf w x retransmit ⌝ }
 {
     let p = previous(w);
     let all = all_handed(w);
@@ -122,11 +122,11 @@ fn judge(w: Writer, x: XferRdy, retransmit: bool) -> Verdict
     }
     if x.offset == p.end {
         if all {
-            return fits(w, x, Verdict::Next);
+            return fits(w, x, XferRdyDisposition::Next);
         }
-        return Verdict::Fail(Failure::XferRdyNotExpected);
+        return XferRdyDisposition::Fail(Failure::XferRdyNotExpected);
     }
-    Verdict::Fail(Failure::XferRdyRequestedOffsetError)
+    XferRdyDisposition::Fail(Failure::XferRdyRequestedOffsetError)
 }
 
 // RETRY DATA FRAMES zero makes the burst's limit 0.
@@ -195,9 +195,9 @@ fn xfer_rdy(w: Writer, h: Header, iu: &[u8]) -> WriteStepped
         XferRdyIu::Taken(x) => {
             let flags = h.flags;
             match judge(w, x, flags.retransmit) {
-                Verdict::Fail(why) => failed(w, why),
-                Verdict::Next => taken(w, asked(w, h, x), next_taken(w)),
-                Verdict::Repeat => taken(w, asked(w, h, x), Answer::Repeated),
+                XferRdyDisposition::Fail(why) => failed(w, why),
+                XferRdyDisposition::Next => taken(w, asked(w, h, x), next_taken(w)),
+                XferRdyDisposition::Repeat => taken(w, asked(w, h, x), Answer::Repeated),
             }
         }
     }
@@ -205,7 +205,7 @@ fn xfer_rdy(w: Writer, h: Header, iu: &[u8]) -> WriteStepped
 
 // The command has ended, with what the RESPONSE says.
 fn opened(w: Writer, iu: Part, o: Opened) -> WriteStepped
-    ensures { λ r. ⌜ stepped r ≡ openedBy (Outcome.value o) w (iu .start) (iu .len) ⌝ }
+    ensures { λ r. ⌜ stepped r ≡ openedBy (Result.value o) w (iu .start) (iu .len) ⌝ }
 {
     let s = w.sender;
     WriteStepped {
@@ -231,9 +231,9 @@ fn response(w: Writer, at: Part, iu: &[u8]) -> WriteStepped
 // A frame that has passed 5 to 8.
 fn take(w: Writer, a: Arrived, bytes: &[u8]) -> WriteStepped
     requires { ⌜ (a .start + a .len ≤ length (now bytes)) × (limitsHold (w .sender .transfer) ≡ true) ⌝ }
-    ensures { λ r. ⌜ stepped r ≡ takenOf (a .kind) w a (now (bytes .entry)) ⌝ }
+    ensures { λ r. ⌜ stepped r ≡ takenOf (a .class) w a (now (bytes .entry)) ⌝ }
 {
-    let kind = a.kind;
+    let class = a.class;
     let h = a.header;
     let start = a.start;
     let past = start + a.len;
@@ -242,11 +242,11 @@ fn take(w: Writer, a: Arrived, bytes: &[u8]) -> WriteStepped
         start: start,
         len: a.len,
     };
-    match kind {
-        Kind::XferRdy => xfer_rdy(w, h, iu),
-        Kind::Response => response(w, at, iu),
-        Kind::Data => write_record::refused(w, Refusal::UnexpectedFrameType),
-        Kind::Other => write_record::refused(w, Refusal::UnexpectedFrameType),
+    match class {
+        Class::XferRdy => xfer_rdy(w, h, iu),
+        Class::Response => response(w, at, iu),
+        Class::Data => write_record::refused(w, Refusal::UnexpectedFrameType),
+        Class::Other => write_record::refused(w, Refusal::UnexpectedFrameType),
     }
 }
 

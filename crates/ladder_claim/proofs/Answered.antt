@@ -13,21 +13,22 @@ use Rattle.status.specs.Pick.{pick}
 use Rattle.status.specs.Answer.{Left}
 use Rattle.transfer.specs.declared.Transfer.{Transfer}
 use Rattle.status.proofs.Leaves.{picked}
-use Rattle.sender.specs.Answer.{loweredOf, causeOf}
-use Rattle.sender.specs.declared.types.Sender.{Sender}
-use Rattle.sender.proofs.Held.{held}
+use Rattle.sender_steps.specs.Confirmation.{loweredOf, causeOf}
+use Rattle.sender_steps.specs.declared.types.Sender.{Sender}
+use Rattle.sender_steps.proofs.Held.{held}
 use Rattle.sender.proofs.Views.{Retried, Settled, acked, naked, timed-out}
-use Rattle.link.specs.Ports.{Signal, signalled}
+use Rattle.link.specs.Ports.{Signal}
+use Rattle.link.specs.Calls.{signalled}
 use Rattle.ladder_text.specs.declared.types.Fate.{Fate}
 use Rattle.ladder_text.specs.declared.types.Fate.the-variants.{Ok, Noack, Bad, Nonak, Lost}
-use Rattle.ladder_run.specs.Ends.{toldOf}
+use Rattle.ladder_run.specs.Ends.{signalledOf}
 use Rattle.ladder_run.specs.Fates.{fateOf}
-use Rattle.ladder_run.specs.Round.{reportOf, firstOf, tellsOf, missesOf, answeredBy, answersOf, timedOut, openedOf, roundOf, closedOf}
+use Rattle.ladder_run.specs.Round.{reportOf, firstOf, notedOf, missesOf, confirmedBy, confirmationsOf, timedOut, openedOf, roundOf, closedOf}
 use Rattle.ladder_run.specs.declared.types.Sending.{Sending}
 use Rattle.ladder_run.specs.declared.types.Report.{Report}
 use Rattle.ladder_run.specs.declared.types.Report.the-variants.{Nothing}
 use Rattle.ladder_run.specs.declared.types.Ladder.{Ladder}
-use Rattle.ladder_run.specs.declared.types.Told.{Told}
+use Rattle.ladder_run.specs.declared.types.Confirming.{Confirming}
 use Rattle.ladder_claim.proofs.SendingCore.{SendsAs, told-as}
 use Rattle.ladder_claim.proofs.Course.{Course, On, enough, most, j-most, next-under, lowered-on, retried-on, moved-on}
 use Rattle.ladder_claim.proofs.Going.{Going, Live, Reports, Done}
@@ -43,7 +44,7 @@ module _ (C : Course) (fs : List ℕ) (lists : length fs ≡ C .listed) (n befor
     done : Reports C q n → Over x q
 
   -- k answers still to come, z of those before them missing; a fault so far means that listed fates were left when the round began
-  pub record Mid (k : ℕ) (x : Told) : Type 0 where
+  pub record Mid (k : ℕ) (x : Confirming) : Type 0 where
     pub s : Sender
     pub j : ℕ
     pub m : ℕ
@@ -58,7 +59,7 @@ module _ (C : Course) (fs : List ℕ) (lists : length fs ≡ C .listed) (n befor
     pub naked : s .nak ≡ true → before < C .listed
     pub missed : 1 ≤ z → before < C .listed
 
-  pub data Answered (k : ℕ) (x : Told) : Type 0 where
+  pub data Answered (k : ℕ) (x : Confirming) : Type 0 where
     mid : Mid k x → Answered k x
     over : k ≡ 0 → x .missing ≡ false → Over (x .sending) (x .report) → Answered k x
 
@@ -106,11 +107,11 @@ module _ (C : Course) (fs : List ℕ) (lists : length fs ≡ C .listed) (n befor
     settles y e (Settled.delivers f k u) a = Over.done (record { reported = refl; number = tt; counted = on .frames; bound = omega (arith, j-most C s n j m on) })
 
   -- an ACK or a NAK reaches the port; nak: a NAK is pending then
-  module _ (g : Signal) (k : ℕ) (x : Told) (v : Mid (suc k) x) (nak : Bool) (fault : nak ≡ true → before < C .listed) where
+  module _ (g : Signal) (k : ℕ) (x : Confirming) (v : Mid (suc k) x) (nak : Bool) (fault : nak ≡ true → before < C .listed) where
     open Mid v using (s, j, m, z, sends, on, bound, nothing, owed, missing, missed)
 
     abbrev told : Left Sending
-    told = toldOf g (x .sending)
+    told = signalledOf g (x .sending)
 
     none-missing : k + z ≡ 0 → x .missing ≡ false
     none-missing e = go missing
@@ -120,12 +121,12 @@ module _ (C : Course) (fs : List ℕ) (lists : length fs ≡ C .listed) (n befor
         go (inr p) = absurd (omega arith)
 
     -- it was the last one, and none is missing
-    ends : {w : Left Sender} → s .unanswered - 1 ≡ 0 → Settled (loweredOf s nak) w → SendsAs (told .left) (w .left) → told .says ≡ w .says → Answered k (tellsOf x told)
+    ends : {w : Left Sender} → s .unanswered - 1 ≡ 0 → Settled (loweredOf s nak) w → SendsAs (told .left) (w .left) → told .says ≡ w .says → Answered k (notedOf x told)
     ends e t a q =
         Answered.over (omega arith) (none-missing (omega arith))
         (subst (Over (told .left)) (sym (λ i. firstOf (nothing i) (reportOf (q i)))) (settles (loweredOf s nak) j m (lowered-on C s n j m on nak) fault bound (told .left) e t a))
 
-    taken : {w : Left Sender} → Settled (loweredOf s nak) w → SendsAs (told .left) (w .left) → told .says ≡ w .says → Answered k (tellsOf x told)
+    taken : {w : Left Sender} → Settled (loweredOf s nak) w → SendsAs (told .left) (w .left) → told .says ≡ w .says → Answered k (notedOf x told)
     taken (Settled.more f) a q =
         Answered.mid
         (record {
@@ -147,10 +148,10 @@ module _ (C : Course) (fs : List ℕ) (lists : length fs ≡ C .listed) (n befor
     taken (Settled.moves f p u) a q = ends f (Settled.moves f p u) a q
     taken (Settled.delivers f p u) a q = ends f (Settled.delivers f p u) a q
 
-    answer : Settled (loweredOf s nak) (signalled g s) → Answered k (tellsOf x told)
+    answer : Settled (loweredOf s nak) (signalled g s) → Answered k (notedOf x told)
     answer t = let a = told-as g (x .sending) s sends (on .holds) in taken t (a .0) (a .1)
 
-  misses : (k : ℕ) (x : Told) → Mid (suc k) x → before < C .listed → Answered k (missesOf x)
+  misses : (k : ℕ) (x : Confirming) → Mid (suc k) x → before < C .listed → Answered k (missesOf x)
   misses k x v h =
       Answered.mid
       (record {
@@ -178,26 +179,26 @@ module _ (C : Course) (fs : List ℕ) (lists : length fs ≡ C .listed) (n befor
         go true q = omega (arith, ltb-true i (length fs) q)
         go false q = differ (u (sym (past fs i (ltb-false i (length fs) q)) ∙ e))
 
-    one : (k : ℕ) (x : Told) → Mid (suc k) x → Answered k (answeredBy (fateOf fs i) x)
+    one : (k : ℕ) (x : Confirming) → Mid (suc k) x → Answered k (confirmedBy (fateOf fs i) x)
     one k x v = go (fateOf fs i) refl
       where
         unanswered : v .s .unanswered ≡ 0 → ⊥
         unanswered e = omega (arith, v .owed)
 
-        go : (f : Fate) → fateOf fs i ≡ f → Answered k (answeredBy f x)
+        go : (f : Fate) → fateOf fs i ≡ f → Answered k (confirmedBy f x)
         go Ok e = answer Signal.ack k x v (v .s .nak) (v .naked) (acked (v .s) (v .on .holds) (v .on .live) unanswered)
         go Bad e = answer Signal.nak k x v true (λ q. faulty Bad (λ r. cc) e) (naked (v .s) (v .on .holds) (v .on .live) unanswered)
         go Noack e = misses k x v (faulty Noack (λ r. cc) e)
         go Nonak e = misses k x v (faulty Nonak (λ r. cc) e)
         go Lost e = misses k x v (faulty Lost (λ r. cc) e)
 
-  answers : (k i : ℕ) (x : Told) → before ≤ i → Answered k x → Answered 0 (answersOf fs k i x)
+  answers : (k i : ℕ) (x : Confirming) → before ≤ i → Answered k x → Answered 0 (confirmationsOf fs k i x)
   answers zero i x h a = a
-  answers (suc k) i x h (Answered.mid v) = answers k (i + 1) (answeredBy (fateOf fs i) x) (omega arith) (one i h k x v)
+  answers (suc k) i x h (Answered.mid v) = answers k (i + 1) (confirmedBy (fateOf fs i) x) (omega arith) (one i h k x v)
   answers (suc k) i x h (Answered.over e p o) = absurd (omega arith)
 
   -- "then a timeout if any is missing"
-  times-out : (x : Told) → Answered 0 x → Over (timedOut x .sending) (timedOut x .report)
+  times-out : (x : Confirming) → Answered 0 x → Over (timedOut x .sending) (timedOut x .report)
   unfolding pick
   times-out x (Answered.over e p o) = rw p o
   times-out x (Answered.mid v) = go (v .missing)
@@ -207,7 +208,7 @@ module _ (C : Course) (fs : List ℕ) (lists : length fs ≡ C .listed) (n befor
       go (inr p) =
           let s = v .s in
           let a = told-as Signal.timeout (x .sending) s (v .sends) (v .on .holds) in
-          let y = toldOf Signal.timeout (x .sending) in
+          let y = signalledOf Signal.timeout (x .sending) in
           rw (p .0)
           (subst (Over (y .left)) (sym (λ i. firstOf (v .nothing i) (reportOf (a .1 i))))
           (retry s (v .j) (v .m) (v .on) (v .missed (p .1)) (v .bound) (y .left) (causeOf s 29) (picked (λ (c : ℕ). (28 ≤ c) × (c ≤ 29)) (s .nak) 28 29 (omega arith, omega arith) (omega arith, omega arith)) (timed-out s (v .on .holds) (v .on .live) (λ e. omega (arith, v .owed, v .some))) (a .0)))

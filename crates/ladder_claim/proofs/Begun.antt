@@ -10,8 +10,8 @@ use lib.ListN.{length, take, length-replicate}
 use borrow.Author.Tests.{leb-true, ltb-false, eqb-true, le-leb, lt-ltb, le-ltb, eq-eqb, ne-eqb}
 use Rattle.status.specs.Pick.{pick}
 use Rattle.status.specs.Answer.{Word, Taking, Said, Left, _saying_}
-use Rattle.status.specs.Outcome.{Outcome, granted}
-use Rattle.status.proofs.Opened.{open-entry, open-answerable}
+use Rattle.status.specs.Result.{Result, granted}
+use Rattle.status.proofs.Opened.{open-entry, open-confirmable}
 use Rattle.transfer.specs.Limits.{limits, limitsHold}
 use Rattle.transfer.specs.declared.Transfer.{Transfer}
 use Rattle.frame.specs.Format.{XFER-RDY, encode}
@@ -21,15 +21,16 @@ use Rattle.frame.specs.declared.types.Header.{Header}
 use Rattle.frame.specs.declared.types.XferRdy.{XferRdy}
 use Rattle.frame.proofs.Writer.{encode-length}
 use Rattle.sender.specs.Record as sender
-use Rattle.sender.specs.declared.types.Burst.{Burst}
-use Rattle.sender.specs.declared.types.Sender.{Sender}
+use Rattle.sender_steps.specs.Record as sender-step
+use Rattle.sender_steps.specs.declared.types.Burst.{Burst}
+use Rattle.sender_steps.specs.declared.types.Sender.{Sender}
 use Rattle.sender.proofs.Kept as sender-kept
-use Rattle.receiver.specs.Record as receiver
-use Rattle.receiver.specs.declared.types.Receiver.{Receiver}
+use Rattle.receiver_steps.specs.Record as receiver
+use Rattle.receiver_steps.specs.declared.types.Receiver.{Receiver}
 use Rattle.receiver.proofs.Kept as receiver-kept
 use Rattle.initiator.specs.WriteRecord as initiator
 use Rattle.initiator.specs.WriteCount.{takes}
-use Rattle.initiator.specs.WriteTake.{writeArrivalOf, limitOf, nextTaken, fitsOf, verdictOf, burstTaken}
+use Rattle.initiator.specs.WriteTake.{writeArrivalOf, limitOf, nextTaken, fitsOf, dispositionOf, burstTaken}
 use Rattle.initiator.specs.declared.types.Writer.{Writer}
 use Rattle.initiator.proofs.WriteHeld.{holds-again}
 use Rattle.initiator.proofs.WriteSame.{Asks, xfer-rdy-arrives}
@@ -37,7 +38,7 @@ use Rattle.target.specs.Record as target
 use Rattle.target.specs.Record.{UNANSWERED, READY}
 use Rattle.target.specs.Tag.{lowest, used, search}
 use Rattle.target.specs.Transmit.{dueOf, burstOf, issuedOf, xferRdyHeader, xferRdyIu, frameOf, nextOf}
-use Rattle.target.specs.Answer.{answersOf, ackOf}
+use Rattle.target.specs.Confirmation.{confirmsOf, ackOf}
 use Rattle.target.specs.declared.types.Target.{Target}
 use Rattle.target.proofs.Kept.{start-holds, issued-holds, acknowledged-holds}
 use Rattle.target.proofs.Held as target-held
@@ -92,7 +93,7 @@ alike r write local remote = record { count = refl; size = refl; window = refl; 
 
 -- ── a read ──
 abbrev pub read-sender : Run → Sender
-read-sender r = let t = transferOf r false TARGET INITIATOR in sender.beginning t (sender.whole t)
+read-sender r = let t = transferOf r false TARGET INITIATOR in sender-step.beginning t (sender.whole t)
 
 abbrev pub read-receiver : Run → Receiver
 read-receiver r = receiver.beginning (transferOf r false INITIATOR TARGET) 0 (r .count)
@@ -100,7 +101,7 @@ read-receiver r = receiver.beginning (transferOf r false INITIATOR TARGET) 0 (r 
 abbrev pub read-ladder : Run → Ladder
 read-ladder r = fresh (sending.Read (read-sender r)) (receiving.Read (read-receiver r))
 
-pub read-sets-up : (r : Run) → Within r → r .direction ≡ Read → setUpOf r ≡ Outcome.value (read-ladder r)
+pub read-sets-up : (r : Run) → Within r → r .direction ≡ Read → setUpOf r ≡ Result.value (read-ladder r)
 unfolding setUpOf granted pick
 read-sets-up r w e = rw (le-leb _ _ (w .count-most), e, target-limits r false w, initiator-limits r false w)
 
@@ -128,7 +129,7 @@ module _ (r : Run) where
   issues i = record { receiver = receiver.beginning there 0 (whole-count i); state = UNANSWERED; tptt = 0; retries = 0; stored = false; under = 0; since = 1 }
 
   abbrev head : Header
-  head = record { kind = XFER-RDY; dest = INITIATOR; source = TARGET; flags = record { tlr = 0; retry = ltb 0 (r .limit); retransmit = false; cdp = false }; tag = TAG; tptt = 0; offset = 0 }
+  head = record { frametype = XFER-RDY; dest = INITIATOR; source = TARGET; flags = record { tlr = 0; retry = ltb 0 (r .limit); retransmit = false; cdp = false }; tag = TAG; tptt = 0; offset = 0 }
 
   abbrev asked : XferRdy
   asked = record { offset = 0; len = r .count }
@@ -188,7 +189,7 @@ module _ (r : Run) where
         holds-again (initiator.startOf here) (sender-kept.begins-holds here _ (initiator-limits r true w) (omega arith) (omega arith) (omega arith)) refl (omega arith)
 
     asks : Asks (initiator.startOf here) head asked
-    asks = record { kind = refl; dest = refl; source = refl; tag = refl; range = record { tag = omega arith; tptt = omega arith; offset = omega arith }; writes = refl; offset = omega arith; len = omega (arith, w .count-most) }
+    asks = record { frametype = refl; dest = refl; source = refl; tag = refl; range = record { tag = omega arith; tptt = omega arith; offset = omega arith }; writes = refl; offset = omega arith; len = omega (arith, w .count-most) }
 
     -- RETRY DATA FRAMES is one if retries are on: the limit is the run's either way
     limit-same : limitOf (initiator.startOf here) (ltb 0 (r .limit)) ≡ r .limit
@@ -199,13 +200,13 @@ module _ (r : Run) where
         go true e = refl
         go false e = omega (arith, ltb-false 0 (r .limit) e)
 
-    pub takes-first : writeArrivalOf (initiator.startOf here) (xferRdySent (target.startOf there) area 36) ≡ (write-sender saying Said.burst Taking.next)
-    unfolding verdictOf fitsOf burstTaken nextTaken pick
+    pub takes-first : writeArrivalOf (initiator.startOf here) (xferRdySent (target.startOf there) area 36) ≡ (write-sender saying Said.xferRdy Taking.next)
+    unfolding dispositionOf fitsOf burstTaken nextTaken pick
     takes-first =
         ap (writeArrivalOf (initiator.startOf here)) bytes
         ∙ xfer-rdy-arrives (initiator.startOf here) head asked waits-well refl asks
         ∙ rw (ne-eqb (r .count) 0 (λ e. omega (arith, w .count-least)), le-ltb (r .count) (0 + r .count) (omega arith))
-        (λ i. initiator.beginsOf here (record { base = 0; end = all-of i; tptt = 0; limit = limit-same i }) saying Said.burst Taking.next)
+        (λ i. initiator.beginsOf here (record { base = 0; end = all-of i; tptt = 0; limit = limit-same i }) saying Said.xferRdy Taking.next)
       where
         all-of : 0 + r .count ≡ r .count
         all-of = omega arith
@@ -214,9 +215,9 @@ module _ (r : Run) where
     asking-well : target.holdsOf (asking UNANSWERED) ≡ true
     asking-well = rw issues at (issued-holds (target.startOf there) (target-held.held _ start-well) is-due (omega arith))
 
-    pub acks : ackOf (asking UNANSWERED) ≡ (write-target saying Said.told Word.acknowledged)
-    unfolding answersOf
-    acks = rw (open-answerable _ _ _ asking-well refl refl)
+    pub acks : ackOf (asking UNANSWERED) ≡ (write-target saying Said.word Word.acknowledged)
+    unfolding confirmsOf
+    acks = rw (open-confirmable _ _ _ asking-well refl refl)
 
     exchanges : exchanged (initiator.startOf here) (target.startOf there) ≡ write-ladder
     unfolding exchanged
@@ -224,7 +225,7 @@ module _ (r : Run) where
         (λ i. fresh (sending.Write (writeArrivalOf (initiator.startOf here) (xferRdySent (target.startOf there) area (handed (hands-out i .says))) .left)) (receiving.Write (ackOf (hands-out i .left) .left)))
         ∙ (λ i. fresh (sending.Write (takes-first i .left)) (receiving.Write (acks i .left)))
 
-    pub write-sets-up : r .direction ≡ Write → setUpOf r ≡ Outcome.value write-ladder
+    pub write-sets-up : r .direction ≡ Write → setUpOf r ≡ Result.value write-ladder
     unfolding setUpOf granted pick
     write-sets-up e = rw (le-leb _ _ (w .count-most), e, initiator-limits r true w, target-limits r true w, exchanges)
 
@@ -246,7 +247,7 @@ read-starts r w d b on dl bl =
     (alike r false TARGET INITIATOR) on dl bl
 
 -- ── all four records are well-formed ──
-pub read-sender-holds : (r : Run) → Within r → sender.holdsOf (read-sender r) ≡ true
+pub read-sender-holds : (r : Run) → Within r → sender-step.holdsOf (read-sender r) ≡ true
 read-sender-holds r w = sender-kept.begins-holds _ _ (target-limits r false w) (omega arith) (omega arith) (omega arith)
 
 pub read-receiver-holds : (r : Run) → Within r → receiver.holdsOf (read-receiver r) ≡ true
@@ -264,10 +265,10 @@ pub data Begun (r : Run) : Ladder → Type 0 where
   read : r .direction ≡ Read → Begun r (read-ladder r)
   write : r .direction ≡ Write → Begun r (write-ladder r)
 
-same-value : {X : Type 0} {z : Outcome X} {x y : X} → z ≡ Outcome.value x → z ≡ Outcome.value y → x ≡ y
+same-value : {X : Type 0} {z : Result X} {x y : X} → z ≡ Result.value x → z ≡ Result.value y → x ≡ y
 same-value p q = cc
 
-pub begun : (r : Run) (l : Ladder) → withinLimits r ≡ true → setUpOf r ≡ Outcome.value l → Begun r l
+pub begun : (r : Run) (l : Ladder) → withinLimits r ≡ true → setUpOf r ≡ Result.value l → Begun r l
 begun r l e s = go (r .direction) refl
   where
     go : (d : Direction) → r .direction ≡ d → Begun r l
@@ -277,6 +278,6 @@ begun r l e s = go (r .direction) refl
 pub sets-up : SetsUp
 sets-up r e = go (r .direction) refl
   where
-    go : (d : Direction) → r .direction ≡ d → (l : Ladder) × (setUpOf r ≡ Outcome.value l)
+    go : (d : Direction) → r .direction ≡ d → (l : Ladder) × (setUpOf r ≡ Result.value l)
     go Read p = (read-ladder r, read-sets-up r (within r e) p)
     go Write p = (write-ladder r, write-sets-up r (within r e) p)

@@ -7,7 +7,7 @@ use Rattle.link.specs.World.{World}
 use Rattle.ladder_text.specs.declared.types.Row.{Row}
 use Rattle.ladder_run.specs.Row.{outOf}
 use Rattle.ladder_run.specs.Round.{closedOf}
-use Rattle.ladder_run.specs.Line.{Told, begins, firstly, lineOf}
+use Rattle.ladder_run.specs.Line.{NextLine, begins, firstly, lineOf}
 use Rattle.ladder_run.specs.Whole.{Whole, onward, climb}
 use Rattle.ladder_run.specs.declared.types.Shown.{Shown}
 use Rattle.ladder_run.specs.declared.types.Due.{Due}
@@ -26,7 +26,7 @@ with-line (line.Row r) shown = shown ++ (shownIn r ∷ [])
 with-line (line.Verdict v) shown = shown
 
 module _ {P : Ports} (E : Embeds P) (start : World P) (end : ℕ) (fills : Fills E start end) (fs d : List ℕ) where
-  abbrev After : List Shown → Told → Type 0
+  abbrev After : List Shown → NextLine → Type 0
   After shown x = Stands E start end fs d (x .ladder) (x .received) (with-line (x .line) shown)
 
   begins-stands : (l : Ladder) (x : Due) (b : List ℕ) (shown : List Shown) → Stands E start end fs d l b (with-due x shown) → After shown (begins fs (record { ladder = l; due = x; received = b }))

@@ -12,14 +12,16 @@ use Rattle.status.specs.Answer.{Word, Said, Left, _saying_}
 use Rattle.status.proofs.Opened.{open-entry}
 use Rattle.frame.specs.Write.{hands as due-frame}
 use Rattle.frame.proofs.Writer.{encode-length}
-use Rattle.sender.specs.Transmit.{lentOf, waitsOf, frameOf, dataHeader, partOf, sentOf, nextOf}
-use Rattle.sender.specs.declared.types.Sender.{Sender}
-use Rattle.sender.proofs.Held.{held, lent-holds}
-use Rattle.sender.proofs.Due.{Due, due, part-length}
+use Rattle.sender_steps.specs.Record.{lentOf}
+use Rattle.sender_steps.specs.Transmit.{waitsOf, frameOf, dataHeader, partOf, sentOf}
+use Rattle.sender.specs.Transmit.{nextOf}
+use Rattle.sender_steps.specs.declared.types.Sender.{Sender}
+use Rattle.sender_steps.proofs.Held.{held, lent-holds}
+use Rattle.sender_steps.proofs.Due.{Due, due, part-length}
 use Rattle.sender.proofs.Next.{next-waits, next-due}
 
 pub data Asking (s : Sender) (d : List ℕ) : Left Sender → Type 0 where
-  waits : 1 ≤ s .unanswered → Asking s d (s saying Said.told Word.wait)
+  waits : 1 ≤ s .unanswered → Asking s d (s saying Said.word Word.wait)
   hands : Due s → Asking s d (sentOf s saying Said.frame (length (frameOf s d)))
 
 module _ (s : Sender) (d out : List ℕ) (l : lentOf s (length d) ≡ true) where

@@ -7,13 +7,13 @@ use Rattle.status.specs.Pick.{pick}
 use Rattle.transfer.specs.Limits.{limitsHold}
 use Rattle.transfer.specs.declared.Transfer.{Transfer}
 use Rattle.transfer.proofs.Bounds.{Bounds, bounds}
-use Rattle.sender.specs.Record.{holdsOf}
-use Rattle.sender.specs.Transmit.{lesser, sentOf}
-use Rattle.sender.specs.Answer.{loweredOf, restartOf, retriedOf, movedOf}
-use Rattle.sender.specs.declared.types.Burst.{Burst}
-use Rattle.sender.specs.declared.types.Sender.{Sender}
-use Rattle.sender.proofs.Held.{held}
-use Rattle.sender.proofs.Due.{Due}
+use Rattle.sender_steps.specs.Record.{holdsOf}
+use Rattle.sender_steps.specs.Transmit.{lesser, sentOf}
+use Rattle.sender_steps.specs.Confirmation.{loweredOf, restartOf, retriedOf, movedOf}
+use Rattle.sender_steps.specs.declared.types.Burst.{Burst}
+use Rattle.sender_steps.specs.declared.types.Sender.{Sender}
+use Rattle.sender_steps.proofs.Held.{held}
+use Rattle.sender_steps.proofs.Due.{Due}
 use Rattle.sender.proofs.Kept.{sent-holds, lowered-holds, retried-holds, moved-holds}
 use Rattle.link.proofs.Grid.{Inside, at, needed, at-next, at-below, inside-at, inside-mono, inside-needed}
 use Rattle.ladder_run.specs.Row.{ROWS-MOST}

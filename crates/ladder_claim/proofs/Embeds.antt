@@ -10,16 +10,18 @@ use Rattle.status.specs.Answer.{Said, Left, _saying_}
 use Rattle.status.proofs.Leaves.{picked, unless-gives}
 use Rattle.frame.specs.Write.{hands}
 use Rattle.frame.proofs.Writer.{encode-length}
-use Rattle.sender.specs.Transmit.{frameOf, sentOf, waitsOf, lentOf, nextOf, dataHeader, partOf}
-use Rattle.sender.specs.declared.types.Sender.{Sender}
+use Rattle.sender_steps.specs.Transmit.{frameOf, sentOf, waitsOf, dataHeader, partOf}
+use Rattle.sender_steps.specs.Record.{lentOf}
+use Rattle.sender.specs.Transmit.{nextOf}
+use Rattle.sender_steps.specs.declared.types.Sender.{Sender}
 use Rattle.initiator.specs.WriteSend as write
 use Rattle.initiator.specs.declared.types.Writer.{Writer}
-use Rattle.initiator.proofs.WriteTold.{kept-says}
+use Rattle.initiator.proofs.WriteReturns.{kept-says}
 use Rattle.target.specs.ReadSend.{readNextOf}
 use Rattle.link.specs.Ports.{Signal, Ports}
 use Rattle.link.specs.Reading.{readPorts}
 use Rattle.link.specs.Writing.{writePorts}
-use Rattle.ladder_run.specs.Ends.{onto, called, askOf, toldOf, arriveOf}
+use Rattle.ladder_run.specs.Ends.{onto, called, askOf, signalledOf, arriveOf}
 use Rattle.ladder_run.specs.declared.types.Sending.{Sending}
 use Rattle.ladder_run.specs.declared.types.Sending.the-variants as sending
 use Rattle.ladder_run.specs.declared.types.Receiving.{Receiving}
@@ -33,15 +35,15 @@ Fair (Said.failed f n) = ⊥
 Fair (Said.delivered n) = ⊥
 Fair Said.stored = Unit {0}
 Fair Said.received = Unit {0}
-Fair (Said.burst t) = Unit {0}
+Fair (Said.xferRdy t) = Unit {0}
 Fair (Said.response start len o n) = Unit {0}
-Fair (Said.told w) = Unit {0}
+Fair (Said.word w) = Unit {0}
 
 pub record Embeds (P : Ports) : Type 0 where
   pub sender : P .Sending → Sending
   pub receiver : P .Receiving → Receiving
   pub asks : (s : P .Sending) (d out : List ℕ) → askOf (sender s) d out ≡ called sender (P .ask s d out)
-  pub told : (g : Signal) (s : P .Sending) → toldOf g (sender s) ≡ onto sender (P .signal g s)
+  pub told : (g : Signal) (s : P .Sending) → signalledOf g (sender s) ≡ onto sender (P .signal g s)
   pub arrives : (r : P .Receiving) (f b : List ℕ) → arriveOf (receiver r) f b ≡ called receiver (P .receiveCall (P .arrival f) r b)
   pub fair : (s : P .Sending) (d out : List ℕ) → Fair (P .ask s d out .says)
 

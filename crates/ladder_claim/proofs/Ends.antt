@@ -9,7 +9,7 @@ use lib.ListN.{length}
 use Rattle.status.proofs.Leaves.{picked}
 use Rattle.transfer.specs.Limits.{limitsHold}
 use Rattle.transfer.specs.declared.Transfer.{Transfer}
-use Rattle.sender.specs.Record.{beginning}
+use Rattle.sender_steps.specs.Record.{beginning}
 use Rattle.sender.proofs.Kept.{begins-holds}
 use Rattle.initiator.proofs.WriteHeld.{held}
 use Rattle.link.proofs.Grid.{needed}

@@ -8,13 +8,13 @@ use native.Mathlib.Omega.{arith}
 use lib.ListN.{length}
 use Rattle.status.specs.Pick.{pick}
 use Rattle.status.specs.Answer.{Left}
-use Rattle.status.specs.Outcome.{granted}
+use Rattle.status.specs.Result.{granted}
 use Rattle.initiator.specs.WriteRecord as initiator
 use Rattle.initiator.specs.WriteCount.{takes}
 use Rattle.initiator.specs.declared.types.Writer.{Writer}
 use Rattle.target.specs.Record as target
 use Rattle.target.specs.Transmit.{nextOf}
-use Rattle.target.specs.Answer.{ackOf}
+use Rattle.target.specs.Confirmation.{ackOf}
 use Rattle.target.specs.declared.types.Target.{Target}
 use Rattle.link.specs.Ports.{Ports}
 use Rattle.link.specs.Reading.{readPorts}
@@ -38,7 +38,7 @@ module _ {P : Ports} (E : Embeds P) (mark : P .Receiving → ℕ) (same : (y : P
   by-mark : Fills E start end
   by-mark =
       record {
-        answered = λ w g q n e. subst (λ (v : World P). v .report ≡ link.Report.none → step v Event.answered .report ≡ link.Report.delivered n → filledOf (E .receiver (v .receiving)) ≡ end) (g .ends) (λ a c. same _ ∙ f (g .events) (g .allowed) a n (inl c)) q e;
+        confirmed = λ w g q n e. subst (λ (v : World P). v .report ≡ link.Report.none → step v Event.confirmed .report ≡ link.Report.delivered n → filledOf (E .receiver (v .receiving)) ≡ end) (g .ends) (λ a c. same _ ∙ f (g .events) (g .allowed) a n (inl c)) q e;
         timeout = λ w g q n e. subst (λ (v : World P). v .report ≡ link.Report.none → step v Event.timeout .report ≡ link.Report.delivered n → filledOf (E .receiver (v .receiving)) ≡ end) (g .ends) (λ a c. same _ ∙ f (g .events) (g .allowed) a n (inr c)) q e;
       }
 

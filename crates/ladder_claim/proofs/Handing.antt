@@ -10,10 +10,11 @@ use borrow.Author.Tests.{ltb-false, eqb-true, eqb-false, ne-eqb}
 use Rattle.status.specs.Pick.{pick}
 use Rattle.status.specs.Answer.{Left}
 use Rattle.transfer.specs.declared.Transfer.{Transfer}
-use Rattle.sender.specs.Transmit.{lentOf, frameOf, sentOf}
-use Rattle.sender.specs.declared.types.Sender.{Sender}
-use Rattle.sender.proofs.Held.{lent-again}
-use Rattle.sender.proofs.Due.{Due}
+use Rattle.sender_steps.specs.Record.{lentOf}
+use Rattle.sender_steps.specs.Transmit.{frameOf, sentOf}
+use Rattle.sender_steps.specs.declared.types.Sender.{Sender}
+use Rattle.sender_steps.proofs.Held.{lent-again}
+use Rattle.sender_steps.proofs.Due.{Due}
 use Rattle.link.specs.Ports.{Called}
 use Rattle.ladder_text.specs.declared.types.Row.{Row}
 use Rattle.ladder_run.specs.Ends.{askOf}

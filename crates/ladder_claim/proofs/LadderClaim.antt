@@ -49,10 +49,10 @@ module _ {P : Ports} (E : Embeds P) (r : Run) (s : P .Sending) (y : P .Receiving
   abbrev whole : Whole
   whole = climbed E r s y fs d b fills k
 
-  open Stands (stands E r s y fs d b fills k) using (s as last-s, r as last-r, answers, tally, handed, level, reached, filled, rows)
+  open Stands (stands E r s y fs d b fills k) using (s as last-s, r as last-r, confirmations, tally, handed, level, reached, filled, rows)
 
   abbrev last : World P
-  last = at last-s last-r d (whole .received) answers tally handed (onLink (whole .last .report))
+  last = at last-s last-r d (whole .received) confirmations tally handed (onLink (whole .last .report))
 
   claim : Delivers (burstOf r) (delivers.fresh P s y d b) last
   claim = subst (Delivers (burstOf r) (delivers.fresh P s y d b)) (reached .ends) (delivery P (burstOf r) _ starts (reached .events) (reached .allowed))

@@ -17,4 +17,3 @@ pub mod Climbed
 pub mod Filling
 pub mod Lists
 pub mod LadderClaim
-pub mod Example

@@ -13,7 +13,7 @@ use Rattle.ladder_text.specs.declared.types.Verdict.{Verdict}
 use Rattle.ladder_run.specs.Ends.{askOf}
 use Rattle.ladder_run.specs.Row.{area, silent, ROWS-MOST, Sent, outBy, nothingOf, askedBy, outOf}
 use Rattle.ladder_run.specs.Round.{closedOf}
-use Rattle.ladder_run.specs.Line.{Told, begins, firstly, lineOf}
+use Rattle.ladder_run.specs.Line.{NextLine, begins, firstly, lineOf}
 use Rattle.ladder_run.specs.Whole.{Whole, onward, climb}
 use Rattle.ladder_run.specs.declared.types.Ladder.{Ladder}
 use Rattle.ladder_run.specs.declared.types.Line.the-variants as line
@@ -29,7 +29,7 @@ over l fs d b e i = pick (e i && ltb (l .frames) ROWS-MOST) (askedBy l (askOf (l
 
 module _ (C : Course) (fs d : List ℕ) (lists : length fs ≡ C .listed) (sent : length d ≡ C .t .count) where
   -- the line x of a ladder that had handed out n frames
-  data Lined (n : ℕ) (x : Told) : Type 0 where
+  data Lined (n : ℕ) (x : NextLine) : Type 0 where
     row : (r : Row) → x .line ≡ line.Row r → Live C (x .ladder) → x .ladder .frames ≡ n + 1 → Lined n x
     verdict : (v : Verdict) → x .line ≡ line.Verdict v → Done C (x .ladder) → x .ladder .frames ≡ n → Lined n x
 
@@ -66,7 +66,7 @@ module _ (C : Course) (fs d : List ℕ) (lists : length fs ≡ C .listed) (sent 
   climbs (suc k) l b v h = go (λ m c w n. climbs k m c w n) (lineOf l fs d b) (lines l b v)
     where
       go : ((m : Ladder) (c : List ℕ) → Live C m → ROWS-MOST < k + m .frames → Climbed (m .frames) (climb k fs d m c)) →
-          (x : Told) → Lined (l .frames) x → Climbed (l .frames) (onward (x .line) (x .ladder) (x .received) (λ m c. climb k fs d m c))
+          (x : NextLine) → Lined (l .frames) x → Climbed (l .frames) (onward (x .line) (x .ladder) (x .received) (λ m c. climb k fs d m c))
       go on x (Lined.row r e w f) =
           let c = on (x .ladder) (x .received) w (omega arith) in
           rw e (record { reports = c .reports; frames = omega (arith, c .frames) })

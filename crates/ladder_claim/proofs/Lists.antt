@@ -33,7 +33,7 @@ module _ {P : Ports} (E : Embeds P) (r : Run) (s : P .Sending) (y : P .Receiving
       record {
         s = s;
         r = y;
-        answers = [];
+        confirmations = [];
         tally = nothing;
         handed = [];
         sending = refl;

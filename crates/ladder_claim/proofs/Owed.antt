@@ -7,15 +7,15 @@ use native.Mathlib.Numerals.{add-one}
 use native.Mathlib.Omega.{arith}
 use Rattle.ladder_text.specs.declared.types.Fate.{Fate}
 use Rattle.ladder_text.specs.declared.types.Fate.the-variants.{Ok, Noack, Bad, Nonak, Lost}
-use Rattle.link.specs.Tally.{Answer, Tally}
+use Rattle.link.specs.Tally.{Confirmation, Tally}
 use Rattle.ladder_run.specs.Fates.{fateOf, fault, faultsOf}
 
 -- an answer joins where the frame arrived, whole or damaged
-abbrev pub joined : Fate → List Answer → List Answer
-joined Ok a = Answer.ack ∷ a
-joined Noack a = Answer.ack ∷ a
-joined Bad a = Answer.nak ∷ a
-joined Nonak a = Answer.nak ∷ a
+abbrev pub joined : Fate → List Confirmation → List Confirmation
+joined Ok a = Confirmation.ack ∷ a
+joined Noack a = Confirmation.ack ∷ a
+joined Bad a = Confirmation.nak ∷ a
+joined Nonak a = Confirmation.nak ∷ a
 joined Lost a = a
 
 abbrev pub lostBy : Fate → ℕ
@@ -34,7 +34,7 @@ owedBy Nonak = 0
 owedBy Lost = 0
 
 -- of k frames from frame n on
-abbrev pub answersIn : List ℕ → ℕ → ℕ → List Answer
+abbrev pub answersIn : List ℕ → ℕ → ℕ → List Confirmation
 answersIn fs zero n = []
 answersIn fs (suc k) n = joined (fateOf fs n) (answersIn fs k (n + 1))
 
@@ -46,7 +46,7 @@ abbrev pub owedIn : List ℕ → ℕ → ℕ → ℕ
 owedIn fs zero n = 0
 owedIn fs (suc k) n = owedBy (fateOf fs n) + owedIn fs k (n + 1)
 
-joined-append : (x : Fate) (a b : List Answer) → joined x a ++ b ≡ joined x (a ++ b)
+joined-append : (x : Fate) (a b : List Confirmation) → joined x a ++ b ≡ joined x (a ++ b)
 joined-append Ok a b = refl
 joined-append Noack a b = refl
 joined-append Bad a b = refl
@@ -76,9 +76,9 @@ module _ (fs : List ℕ) where
   faults-last n = ap (faultsOf fs) (add-one n)
 
   -- n frames went out, those before this round m: the answers on the way, and what is counted
-  pub record Level (n m : ℕ) (answers : List Answer) (t : Tally) : Type 0 where
+  pub record Level (n m : ℕ) (confirmations : List Confirmation) (t : Tally) : Type 0 where
     pub order : m ≤ n
-    pub answers-are : answers ≡ answersIn fs (n - m) m
+    pub answers-are : confirmations ≡ answersIn fs (n - m) m
     pub lost : lostIn fs (n - m) m ≤ t .lost
     pub faults : t .faults + owedIn fs (n - m) m ≤ faultsOf fs n
 
@@ -94,7 +94,7 @@ module _ (fs : List ℕ) where
       }
 
   -- frame n goes out with fate x, which adds to the counts so much at once
-  pub level-on : {n m : ℕ} {a : List Answer} {t u : Tally} → Level n m a t → u .lost ≡ t .lost + lostBy (fateOf fs n) → u .faults + owedBy (fateOf fs n) ≡ t .faults + fault (fateOf fs n) → Level (n + 1) m (a ++ joined (fateOf fs n) []) u
+  pub level-on : {n m : ℕ} {a : List Confirmation} {t u : Tally} → Level n m a t → u .lost ≡ t .lost + lostBy (fateOf fs n) → u .faults + owedBy (fateOf fs n) ≡ t .faults + fault (fateOf fs n) → Level (n + 1) m (a ++ joined (fateOf fs n) []) u
   level-on {n} {m} {a} {t} {u} l el ef =
       let o = l .order in
       let e : n + 1 - m ≡ suc (n - m) = omega arith in
@@ -106,7 +106,7 @@ module _ (fs : List ℕ) where
       record {
         order = omega arith;
         answers-are =
-            ap (λ (v : List Answer). v ++ joined (fateOf fs n) []) (l .answers-are)
+            ap (λ (v : List Confirmation). v ++ joined (fateOf fs n) []) (l .answers-are)
             ∙ ap (λ (k : ℕ). answersIn fs (n - m) m ++ joined (fateOf fs k) []) (sym at)
             ∙ sym (answers-last (n - m) m)
             ∙ ap (λ (k : ℕ). answersIn fs k m) (sym e);

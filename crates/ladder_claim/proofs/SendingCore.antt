@@ -4,13 +4,14 @@ use mathlib.Core.Bool.{true}
 use mathlib.Core.Path.{_≡_}
 use Prim.Native.Nat.{ℕ}
 use lib.ListN.{length}
-use Rattle.sender.specs.Record.{holdsOf}
-use Rattle.sender.specs.Transmit.{lentOf, nextOf}
-use Rattle.sender.specs.declared.types.Sender.{Sender}
-use Rattle.link.specs.Ports.{Signal, signalled}
+use Rattle.sender_steps.specs.Record.{holdsOf, lentOf}
+use Rattle.sender.specs.Transmit.{nextOf}
+use Rattle.sender_steps.specs.declared.types.Sender.{Sender}
+use Rattle.link.specs.Ports.{Signal}
+use Rattle.link.specs.Calls.{signalled}
 use Rattle.link.proofs.ReadSimulates.{read-simulates}
 use Rattle.link.proofs.WriteSimulates.{write-simulates}
-use Rattle.ladder_run.specs.Ends.{askOf, toldOf}
+use Rattle.ladder_run.specs.Ends.{askOf, signalledOf}
 use Rattle.ladder_run.specs.declared.types.Sending.{Sending}
 use Rattle.ladder_run.specs.declared.types.Sending.the-variants as sending
 
@@ -25,6 +26,6 @@ asks-as (sending.Read x) s d out a l = let q = read-simulates .asks-as x s d out
 asks-as (sending.Write w) s d out a l = let q = write-simulates 0 .asks-as w s d out a l in (q .0, q .1)
 
 pub told-as : (g : Signal) (x : Sending) (s : Sender) → SendsAs x s → holdsOf s ≡ true →
-    SendsAs (toldOf g x .left) (signalled g s .left) × (toldOf g x .says ≡ signalled g s .says)
+    SendsAs (signalledOf g x .left) (signalled g s .left) × (signalledOf g x .says ≡ signalled g s .says)
 told-as g (sending.Read x) s a h = read-simulates .signals-as g x s a h
 told-as g (sending.Write w) s a h = write-simulates 0 .signals-as g w s a h

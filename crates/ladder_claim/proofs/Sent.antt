@@ -11,7 +11,7 @@ use Rattle.status.specs.Answer.{Said}
 use Rattle.status.proofs.Opened.{differ}
 use Rattle.frame.specs.Read.{decode}
 use Rattle.link.specs.Ports.{Called, Ports}
-use Rattle.link.specs.Tally.{Answer, Tally, handedOut, frameLost, frameDamaged}
+use Rattle.link.specs.Tally.{Confirmation, Tally, handedOut, frameLost, frameDamaged}
 use Rattle.link.specs.World.{World, Event, asks}
 use Rattle.ladder_text.specs.declared.types.Fate.{Fate}
 use Rattle.ladder_text.specs.declared.types.Fate.the-variants.{Ok, Noack, Bad, Nonak, Lost}
@@ -54,21 +54,21 @@ none-filled : {q : Report} → q ≡ Nothing → (filled end : ℕ) → Filled q
 none-filled e filled end n f = differ (cc)
 
 module _ {P : Ports} (E : Embeds P) (start : World P) (end : ℕ) (fs d : List ℕ) (l : Ladder) (b : List ℕ) (shown : List Shown) (st : Stands E start end fs d l b shown) where
-  open Stands st using (s, r, answers, tally, handed, sending, receiving, level, reached, filled, rows)
+  open Stands st using (s, r, confirmations, tally, handed, sending, receiving, level, reached, filled, rows)
 
   abbrev StandsAfter : Sent → Type 0
   StandsAfter x = Stands E start end fs d (x .ladder) (x .received) (with-due (x .due) shown)
 
   abbrev here : World P
-  here = at s r d b answers tally handed (onLink (l .report))
+  here = at s r d b confirmations tally handed (onLink (l .report))
 
   -- no frame was due: the sending port is y then
-  waits : (y : P .Sending) → Reaches start (at y r d b answers tally handed (onLink (l .report))) → StandsAfter (outBy (nothingOf l (E .sender y)) b)
-  waits y g = record { s = y; r = r; answers = answers; tally = tally; handed = handed; sending = refl; receiving = receiving; level = level; reached = g; filled = filled; rows = rows }
+  waits : (y : P .Sending) → Reaches start (at y r d b confirmations tally handed (onLink (l .report))) → StandsAfter (outBy (nothingOf l (E .sender y)) b)
+  waits y g = record { s = y; r = r; confirmations = confirmations; tally = tally; handed = handed; sending = refl; receiving = receiving; level = level; reached = g; filled = filled; rows = rows }
 
   module _ (quiet : l .report ≡ Nothing) where
     -- frame f was handed out by a port that is y then
-    module _ (y : P .Sending) (f : List ℕ) (go : Reaches start (record { sending = y; receiving = r; sent = d; received = b; frames = f ∷ []; answers = answers; tally = handedOut tally; handed = handed ++ (f ∷ []); report = onLink (l .report) })) where
+    module _ (y : P .Sending) (f : List ℕ) (go : Reaches start (record { sending = y; receiving = r; sent = d; received = b; frames = f ∷ []; confirmations = confirmations; tally = handedOut tally; handed = handed ++ (f ∷ []); report = onLink (l .report) })) where
       -- with its fate x
       abbrev sentAs : Fate → Meeting → Sent
       sentAs x m =
@@ -80,17 +80,17 @@ module _ {P : Ports} (E : Embeds P) (start : World P) (end : ℕ) (fs d : List �
 
       -- what stands after it, from its event on
       after : (x : Fate) (m : Meeting) (r′ : P .Receiving) (t : Tally) → fateOf fs (l .frames) ≡ x → m .receiving ≡ E .receiver r′ → t .lost ≡ tally .lost + lostBy x → t .faults + owedBy x ≡ tally .faults + fault x →
-          Reaches start (at y r′ d (m .received) (answers ++ joined x []) t (handed ++ (f ∷ [])) (onLink (l .report))) → StandsAfter (sentAs x m)
+          Reaches start (at y r′ d (m .received) (confirmations ++ joined x []) t (handed ++ (f ∷ [])) (onLink (l .report))) → StandsAfter (sentAs x m)
       after x m r′ t e em el ef g =
           record {
             s = y;
             r = r′;
-            answers = answers ++ joined x [];
+            confirmations = confirmations ++ joined x [];
             tally = t;
             handed = handed ++ (f ∷ []);
             sending = refl;
             receiving = em;
-            level = subst (λ (v : Fate). Level fs (l .frames + 1) (l .before) (answers ++ joined v []) t) e (level-on fs level (subst (λ (v : Fate). t .lost ≡ tally .lost + lostBy v) (sym e) el) (subst (λ (v : Fate). t .faults + owedBy v ≡ tally .faults + fault v) (sym e) ef));
+            level = subst (λ (v : Fate). Level fs (l .frames + 1) (l .before) (confirmations ++ joined v []) t) e (level-on fs level (subst (λ (v : Fate). t .lost ≡ tally .lost + lostBy v) (sym e) el) (subst (λ (v : Fate). t .faults + owedBy v ≡ tally .faults + fault v) (sym e) ef));
             reached = g;
             filled = none-filled quiet _ end;
             rows = shown-last handed f ∙ ap (λ (v : List Shown). v ++ (shownOf (decode f) ∷ [])) rows;
@@ -108,29 +108,29 @@ module _ {P : Ports} (E : Embeds P) (start : World P) (end : ℕ) (fs d : List �
       meets Noack e = subst (λ (v : Called Receiving). StandsAfter (sentAs Noack (arrives v))) (sym arrived) (after Noack (arrives (called (E .receiver) came)) (came .left) (handedOut tally) e refl (omega arith) refl (reaches-on go Event.arrives tt))
       meets Bad e = after Bad (metOf (l .receiving) Bad f b) r (frameDamaged (handedOut tally)) e receiving (omega arith) (omega arith) (reaches-on go Event.damaged tt)
       meets Nonak e = after Nonak (metOf (l .receiving) Nonak f b) r (frameDamaged (handedOut tally)) e receiving (omega arith) (omega arith) (reaches-on go Event.damaged tt)
-      meets Lost e = after Lost (metOf (l .receiving) Lost f b) r (frameLost (handedOut tally)) e receiving (omega arith) (omega arith) (subst (λ (v : List Answer). Reaches start (at y r d b v (frameLost (handedOut tally)) (handed ++ (f ∷ [])) (onLink (l .report)))) (sym (append-nil answers)) (reaches-on go Event.frame-lost tt))
+      meets Lost e = after Lost (metOf (l .receiving) Lost f b) r (frameLost (handedOut tally)) e receiving (omega arith) (omega arith) (subst (λ (v : List Confirmation). Reaches start (at y r d b v (frameLost (handedOut tally)) (handed ++ (f ∷ [])) (onLink (l .report)))) (sym (append-nil confirmations)) (reaches-on go Event.frame-lost tt))
 
       sent : StandsAfter (sentOf l (E .sender y) f fs b)
       sent = meets (fateOf fs (l .frames)) refl
 
     -- by what the port answers
-    answered : (y : P .Sending) (a : Said) (lent : List ℕ) → Fair a → Reaches start (asks here (record { left = y; says = a; lent = lent })) → StandsAfter (askedBy l (record { left = E .sender y; says = a; lent = lent }) fs b)
+    confirmed : (y : P .Sending) (a : Said) (lent : List ℕ) → Fair a → Reaches start (asks here (record { left = y; says = a; lent = lent })) → StandsAfter (askedBy l (record { left = E .sender y; says = a; lent = lent }) fs b)
     unfolding pick
-    answered y (Said.frame n) lent p g = rw (ne-eqb n 0 (λ e. omega arith)) (sent y (take n lent) g)
-    answered y (Said.refused n) lent p g = waits y g
-    answered y (Said.failed f n) lent p g = absurd p
-    answered y (Said.delivered n) lent p g = absurd p
-    answered y Said.stored lent p g = waits y g
-    answered y Said.received lent p g = waits y g
-    answered y (Said.burst t) lent p g = waits y g
-    answered y (Said.response start len o n) lent p g = waits y g
-    answered y (Said.told w) lent p g = waits y g
+    confirmed y (Said.frame n) lent p g = rw (ne-eqb n 0 (λ e. omega arith)) (sent y (take n lent) g)
+    confirmed y (Said.refused n) lent p g = waits y g
+    confirmed y (Said.failed f n) lent p g = absurd p
+    confirmed y (Said.delivered n) lent p g = absurd p
+    confirmed y Said.stored lent p g = waits y g
+    confirmed y Said.received lent p g = waits y g
+    confirmed y (Said.xferRdy t) lent p g = waits y g
+    confirmed y (Said.response start len o n) lent p g = waits y g
+    confirmed y (Said.word w) lent p g = waits y g
 
     asked : (out : List ℕ) → StandsAfter (askedBy l (askOf (l .sending) d out) fs b)
     asked out =
         let x = P .ask s d out in
         subst (λ (v : Called Sending). StandsAfter (askedBy l v fs b)) (sym (ap (λ (v : Sending). askOf v d out) sending ∙ E .asks s d out))
-        (answered (x .left) (x .says) (x .lent) (E .fair s d out) (reaches-on reached (Event.ask out) tt))
+        (confirmed (x .left) (x .says) (x .lent) (E .fair s d out) (reaches-on reached (Event.ask out) tt))
 
   -- a frame asked for, unless something is reported
   pub out-stands : StandsAfter (outOf l fs d b)

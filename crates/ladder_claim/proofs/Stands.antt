@@ -4,7 +4,7 @@ use mathlib.Core.List.{List, [], map}
 use mathlib.Core.Path.{_≡_}
 use Rattle.frame.specs.Read.{decode}
 use Rattle.link.specs.Ports.{Ports}
-use Rattle.link.specs.Tally.{Answer, Tally}
+use Rattle.link.specs.Tally.{Confirmation, Tally}
 use Rattle.link.specs.World.{World, Event, step}
 use Rattle.link.specs.World as link
 use Rattle.ladder_run.specs.Ends.{filledOf}
@@ -19,8 +19,8 @@ use Rattle.ladder_claim.proofs.Embeds.{Embeds}
 use Rattle.ladder_claim.proofs.Owed.{Level}
 
 -- between two lines of a ladder no frame is on the way
-abbrev pub at : {P : Ports} → P .Sending → P .Receiving → List ℕ → List ℕ → List Answer → Tally → List (List ℕ) → link.Report → World P
-at s r d b a t h q = record { sending = s; receiving = r; sent = d; received = b; frames = []; answers = a; tally = t; handed = h; report = q }
+abbrev pub at : {P : Ports} → P .Sending → P .Receiving → List ℕ → List ℕ → List Confirmation → Tally → List (List ℕ) → link.Report → World P
+at s r d b a t h q = record { sending = s; receiving = r; sent = d; received = b; frames = []; confirmations = a; tally = t; handed = h; report = q }
 
 -- what the rows show of the frames handed out
 abbrev pub shownAll : List (List ℕ) → List Shown
@@ -28,7 +28,7 @@ shownAll h = map (λ f. shownOf (decode f)) h
 
 -- with the event that reports delivery the filled mark is the burst's end
 pub record Fills {P : Ports} (E : Embeds P) (start : World P) (end : ℕ) : Type 0 where
-  pub answered : (w : World P) → Reaches start w → w .report ≡ link.Report.none → (n : ℕ) → step w Event.answered .report ≡ link.Report.delivered n → filledOf (E .receiver (w .receiving)) ≡ end
+  pub confirmed : (w : World P) → Reaches start w → w .report ≡ link.Report.none → (n : ℕ) → step w Event.confirmed .report ≡ link.Report.delivered n → filledOf (E .receiver (w .receiving)) ≡ end
   pub timeout : (w : World P) → Reaches start w → w .report ≡ link.Report.none → (n : ℕ) → step w Event.timeout .report ≡ link.Report.delivered n → filledOf (E .receiver (w .receiving)) ≡ end
 
 -- delivered, then filled
@@ -40,12 +40,12 @@ module _ {P : Ports} (E : Embeds P) (start : World P) (end : ℕ) (fs d : List �
   pub record Stands (l : Ladder) (b : List ℕ) (shown : List Shown) : Type 0 where
     pub s : P .Sending
     pub r : P .Receiving
-    pub answers : List Answer
+    pub confirmations : List Confirmation
     pub tally : Tally
     pub handed : List (List ℕ)
     pub sending : l .sending ≡ E .sender s
     pub receiving : l .receiving ≡ E .receiver r
-    pub level : Level fs (l .frames) (l .before) answers tally
-    pub reached : Reaches start (at s r d b answers tally handed (onLink (l .report)))
+    pub level : Level fs (l .frames) (l .before) confirmations tally
+    pub reached : Reaches start (at s r d b confirmations tally handed (onLink (l .report)))
     pub filled : Filled (l .report) (filledOf (l .receiving)) end
     pub rows : shownAll handed ≡ shown

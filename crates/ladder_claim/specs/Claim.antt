@@ -5,12 +5,12 @@ use mathlib.Core.List.{List, map}
 use mathlib.Core.Bool.{false, true}
 use mathlib.Core.Path.{_≡_}
 use lib.ListN.{length}
-use Rattle.status.specs.Outcome.{Outcome}
+use Rattle.status.specs.Result.{Result}
 use Rattle.frame.specs.Read.{decode}
 use Rattle.link.specs.Ports.{Ports}
 use Rattle.link.specs.World.{World, Event, run, Allowed}
 use Rattle.link.specs.World as link
-use Rattle.link.specs.Delivers.{Burst, faultless}
+use Rattle.link.specs.Delivers.{BurstParameters, faultless}
 use Rattle.link.specs.Claim.{Starts}
 use Rattle.ladder_text.specs.Rows.{withinLimits}
 use Rattle.ladder_text.specs.declared.types.Run.{Run}
@@ -26,20 +26,20 @@ use Rattle.ladder_run.specs.declared.types.Shown.{Shown}
 use Rattle.ladder_run.specs.declared.types.Ladder.{Ladder}
 
 -- line one as the burst that is delivered
-abbrev pub burstOf : Run → Burst
+abbrev pub burstOf : Run → BurstParameters
 burstOf r = record { base = 0; end = r .count; size = r .size; limit = r .limit }
 
 -- the ladder of line one r, at its start; fates, sent data, received data
 pub record Started (r : Run) (l : Ladder) (fs d b : List ℕ) : Type 0 where
   pub within : withinLimits r ≡ true
-  pub ready : setUpOf r ≡ Outcome.value l
+  pub ready : setUpOf r ≡ Result.value l
   pub few : length fs ≤ FATES-MOST
   pub sent : length d ≡ r .count
   pub room : length b ≡ r .count
 
 -- a run within the limits is set up
 abbrev pub SetsUp : Type 0
-SetsUp = (r : Run) → withinLimits r ≡ true → (l : Ladder) × (setUpOf r ≡ Outcome.value l)
+SetsUp = (r : Run) → withinLimits r ≡ true → (l : Ladder) × (setUpOf r ≡ Result.value l)
 
 -- the frames that a report counts
 abbrev pub framesIn : Report → ℕ

@@ -10,7 +10,7 @@ use Rattle.ladder_text.specs.Place.{Puts, lineText}
 use Rattle.ladder_text.specs.declared.types.Row.{Row}
 use Rattle.ladder_text.specs.declared.types.Verdict.{Verdict}
 use Rattle.ladder_text.proofs.Joined.{lines-behind}
-use Rattle.ladder_run.specs.Line.{Told, toldBy, lineOf, verdictOf}
+use Rattle.ladder_run.specs.Line.{NextLine, nextLineBy, lineOf, verdictOf}
 use Rattle.ladder_run.specs.Whole.{Whole, above, onward, climb}
 use Rattle.ladder_run.specs.declared.types.Ladder.{Ladder}
 use Rattle.ladder_run.specs.declared.types.Line.{Line}
@@ -34,9 +34,9 @@ pub record Climbing (fs d out₀ : List ℕ) (w : Whole) (b out : List ℕ) (l :
 pub climbing-first : (fs d out b : List ℕ) (l : Ladder) (k : ℕ) → 35 * k ≤ 1_340_220 → Climbing fs d out (climb k fs d l b) b out l 0 k
 climbing-first fs d out b l k m = record { text = []; front = front-none out; rows = refl; last = refl; room = omega arith }
 
-module _ (fs d b : List ℕ) (l : Ladder) {x : Next} {c : List ℕ} (h : toldBy x c ≡ lineOf l fs d b) where
+module _ (fs d b : List ℕ) (l : Ladder) {x : Next} {c : List ℕ} (h : nextLineBy x c ≡ lineOf l fs d b) where
   goes : (k : ℕ) → climb (suc k) fs d l b ≡ onward (x .line) (x .ladder) c (λ m e. climb k fs d m e)
-  goes k = ap (λ (v : Told). onward (v .line) (v .ladder) (v .received) (λ m e. climb k fs d m e)) (sym h)
+  goes k = ap (λ (v : NextLine). onward (v .line) (v .ladder) (v .received) (λ m e. climb k fs d m e)) (sym h)
 
   pub goes-row : (k : ℕ) {r : Row} → x .line ≡ line.Row r → climb (suc k) fs d l b ≡ above r (climb k fs d (x .ladder) c)
   goes-row k p = goes k ∙ ap (λ (v : Line). onward v (x .ladder) c (λ m e. climb k fs d m e)) p
@@ -45,7 +45,7 @@ module _ (fs d b : List ℕ) (l : Ladder) {x : Next} {c : List ℕ} (h : toldBy 
   goes-over k p = goes k ∙ ap (λ (v : Line). onward v (x .ladder) c (λ m e. climb k fs d m e)) p
 
   pub row-short : {r : Row} → length d ≤ 65_536 → x .line ≡ line.Row r → length (lineText (rowText r)) ≤ 35
-  row-short {r} n p = small-lines l fs d b r n (ap (λ (v : Told). v .line) (sym h) ∙ p) .text
+  row-short {r} n p = small-lines l fs d b r n (ap (λ (v : NextLine). v .line) (sym h) ∙ p) .text
 
 module _ {fs d out₀ : List ℕ} {w : Whole} {b out : List ℕ} {l : Ladder} {at left : ℕ} (g : Climbing fs d out₀ w b out l at left) (enough : 1_340_284 ≤ length out₀) where
   pub out-length : length out ≡ length out₀
@@ -54,7 +54,7 @@ module _ {fs d out₀ : List ℕ} {w : Whole} {b out : List ℕ} {l : Ladder} {a
   pub room-now : at + 64 ≤ length out
   room-now = omega (arith, g .room, out-length)
 
-  module _ {x : Next} {c : List ℕ} (h : toldBy x c ≡ lineOf l fs d b) (some : 0 < left) where
+  module _ {x : Next} {c : List ℕ} (h : nextLineBy x c ≡ lineOf l fs d b) (some : 0 < left) where
     as-suc : left ≡ suc (left - 1)
     as-suc = omega arith
 

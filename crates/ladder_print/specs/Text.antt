@@ -5,7 +5,7 @@ use mathlib.Core.Path.{_≡_}
 use lib.ListN.{length, replicate}
 use lib.Dec.{leb}
 use Rattle.status.specs.Pick.{pick}
-use Rattle.status.specs.Outcome.{Outcome}
+use Rattle.status.specs.Result.{Result}
 use Rattle.ladder_text.specs.Words.{fateNumber}
 use Rattle.ladder_text.specs.Rows.{ladderText, refusedText}
 use Rattle.ladder_text.specs.Place.{placed, lineText}
@@ -37,9 +37,9 @@ unfoldable pub startText : Ladder → ℕ → List ℕ → List ℕ
 startText l n fs = wholeText fs (wholeOf fs (dataOf n) l (replicate n 0))
 
 -- a line one that set-up refuses does not fit; there is none (crate ladder_claim, `SetsUp`)
-abbrev pub setUpText : Outcome Ladder → ℕ → List ℕ → List ℕ
-setUpText (Outcome.value l) n fs = startText l n fs
-setUpText (Outcome.number k) n fs = lineText (refusedText 1)
+abbrev pub setUpText : Result Ladder → ℕ → List ℕ → List ℕ
+setUpText (Result.value l) n fs = startText l n fs
+setUpText (Result.number k) n fs = lineText (refusedText 1)
 
 -- "A line that does not fit prints only `refused`, tab, line number"
 abbrev pub ofFile : RunFile → List ℕ → List ℕ

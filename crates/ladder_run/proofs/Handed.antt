@@ -14,7 +14,9 @@ use Rattle.status.specs.declared.entry.Entry.the-variants.{Open, Closed}
 use Rattle.status.specs.Entry.{entryOf}
 use Rattle.frame.specs.Write.{hands}
 use Rattle.sender.specs.Transmit as sender
-use Rattle.sender.specs.declared.types.Sender.{Sender}
+use Rattle.sender_steps.specs.Record.{lentOf}
+use Rattle.sender_steps.specs.Transmit as sender-step
+use Rattle.sender_steps.specs.declared.types.Sender.{Sender}
 use Rattle.initiator.specs.WriteSend as initiator
 use Rattle.initiator.specs.declared.types.Writer.{Writer}
 use Rattle.target.specs.Record.{holdsOf}
@@ -45,12 +47,12 @@ unless-fits : {X : Type 0} (n : ℕ) (e : Entry) (x : X) (y : Left X) → Fits n
 unless-fits n Open x y p = p
 unless-fits n (Closed why) x y p = record { fits = omega arith }
 
-wait-fits : {X : Type 0} (n : ℕ) (x : X) → Fits n (x saying Said.told Word.wait)
+wait-fits : {X : Type 0} (n : ℕ) (x : X) → Fits n (x saying Said.word Word.wait)
 wait-fits n x = record { fits = omega arith }
 
 sender-fits : (s : Sender) (d out : List ℕ) → Fits (length out) (sender.nextOf s d out)
 unfolding sender.nextOf
-sender-fits s d out = unless-fits _ (entryOf (sender.lentOf s (length d)) (s .ended)) s _ (pick-fits _ (sender.waitsOf s) _ _ (wait-fits _ s) (hands-fits s (sender.sentOf s) (sender.frameOf s d) out))
+sender-fits s d out = unless-fits _ (entryOf (lentOf s (length d)) (s .ended)) s _ (pick-fits _ (sender-step.waitsOf s) _ _ (wait-fits _ s) (hands-fits s (sender-step.sentOf s) (sender-step.frameOf s d) out))
 
 writer-fits : (w : Writer) (d out : List ℕ) → Fits (length out) (initiator.nextOf w d out)
 unfolding initiator.nextOf

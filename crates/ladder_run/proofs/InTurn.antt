@@ -9,8 +9,8 @@ use Rattle.ladder_text.specs.Words.{fateAt}
 use Rattle.ladder_text.specs.declared.types.Fate.{Fate}
 use Rattle.ladder_text.specs.declared.types.Fate.the-variants.{Ok, Noack, Bad, Nonak, Lost}
 use Rattle.ladder_run.specs.Fates.{fateOf, fault, faultsOf}
-use Rattle.ladder_run.specs.Round.{answeredBy, answersOf}
-use Rattle.ladder_run.specs.declared.types.Told.{Told}
+use Rattle.ladder_run.specs.Round.{confirmedBy, confirmationsOf}
+use Rattle.ladder_run.specs.declared.types.Confirming.{Confirming}
 
 pub past : (l : List ℕ) (n : ℕ) → length l ≤ n → getD l n 0 ≡ 0
 past [] n h = refl
@@ -33,14 +33,14 @@ pub faults-next : (fs : List ℕ) (n : ℕ) → faultsOf fs (n + 1) ≡ faultsOf
 faults-next fs n = ap (faultsOf fs) (add-one n)
 
 -- the answers from frame i up to frame k, the first of them taken
-pub answers-next : (fs : List ℕ) (k i : ℕ) (x : Told) → i < k → answersOf fs (k - i) i x ≡ answersOf fs (k - (i + 1)) (i + 1) (answeredBy (fateOf fs i) x)
-answers-next fs k i x h = ap (λ (n : ℕ). answersOf fs n i x) (as-suc)
+pub confirmations-next : (fs : List ℕ) (k i : ℕ) (x : Confirming) → i < k → confirmationsOf fs (k - i) i x ≡ confirmationsOf fs (k - (i + 1)) (i + 1) (confirmedBy (fateOf fs i) x)
+confirmations-next fs k i x h = ap (λ (n : ℕ). confirmationsOf fs n i x) (as-suc)
   where
     as-suc : k - i ≡ suc (k - (i + 1))
     as-suc = omega arith
 
-pub answers-end : (fs : List ℕ) (k i : ℕ) (x : Told) → k ≤ i → x ≡ answersOf fs (k - i) i x
-answers-end fs k i x h = ap (λ (n : ℕ). answersOf fs n i x) (none)
+pub confirmations-end : (fs : List ℕ) (k i : ℕ) (x : Confirming) → k ≤ i → x ≡ confirmationsOf fs (k - i) i x
+confirmations-end fs k i x h = ap (λ (n : ℕ). confirmationsOf fs n i x) (none)
   where
     none : 0 ≡ k - i
     none = omega arith

@@ -1,7 +1,7 @@
 pub mod Ports
 pub mod InTurn
 pub mod Handed
-pub mod Told
+pub mod Leaves
 pub mod Readied
 pub mod SmallFrame
 pub mod SmallReceipt

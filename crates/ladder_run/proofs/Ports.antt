@@ -4,12 +4,12 @@ use mathlib.Core.List.{List}
 use mathlib.Core.Path.{_≡_, refl, sym, ap, _∙_}
 use Rattle.status.specs.Answer.{Left}
 use Rattle.link.specs.Ports.{Called, lending, Signal}
-use Rattle.ladder_run.specs.Ends.{onto, called, askOf, toldOf, arriveOf}
+use Rattle.ladder_run.specs.Ends.{onto, called, askOf, signalledOf, arriveOf}
 use Rattle.ladder_run.specs.declared.types.Sending.{Sending}
 use Rattle.ladder_run.specs.declared.types.Receiving.{Receiving}
 
-pub signalled : {X : Type 0} {s : Sending} {a b : Left X} {r : Left Sending} (to : X → Sending) (x : X) (g : Signal) → s ≡ to x → a ≡ b → r ≡ onto to a → toldOf g (to x) ≡ onto to b → r ≡ toldOf g s
-signalled to x g p q e f = e ∙ ap (onto to) q ∙ sym f ∙ ap (toldOf g) (sym p)
+pub signalled : {X : Type 0} {s : Sending} {a b : Left X} {r : Left Sending} (to : X → Sending) (x : X) (g : Signal) → s ≡ to x → a ≡ b → r ≡ onto to a → signalledOf g (to x) ≡ onto to b → r ≡ signalledOf g s
+signalled to x g p q e f = e ∙ ap (onto to) q ∙ sym f ∙ ap (signalledOf g) (sym p)
 
 -- what a call leaves and the buffer that it was lent, of a port x of either end
 pub lent : {X Y : Type 0} (to : X → Y) {a b : Left X} {c d : List ℕ} {r : Left Y} → a ≡ b → r ≡ onto to a → c ≡ d → lending r c ≡ called to (lending b d)

@@ -11,7 +11,7 @@ use borrow.Author.Tests.{leb-true}
 use Rattle.status.specs.Pick.{pick}
 use Rattle.status.specs.Entry.{entryOf}
 use Rattle.status.specs.Answer.{Word, Said, Left, _saying_, unless}
-use Rattle.status.specs.Outcome.{Outcome}
+use Rattle.status.specs.Result.{Result}
 use Rattle.status.specs.declared.entry.Entry.{Entry}
 use Rattle.status.specs.declared.entry.Entry.the-variants.{Open, Closed}
 use Rattle.status.proofs.Choose.{each}
@@ -22,13 +22,15 @@ use Rattle.frame.specs.Read.{headerIn, form, wellFormed, parsed, decode}
 use Rattle.frame.specs.Write.{hands, handing}
 use Rattle.frame.specs.declared.types.Header.{Header}
 use Rattle.frame.proofs.Digits.{field-digits}
-use Rattle.sender.specs.Transmit.{lentOf, waitsOf, dataHeader, partOf, frameOf, sentOf, nextOf}
-use Rattle.sender.specs.declared.types.Sender.{Sender}
-use Rattle.sender.proofs.Held.{held, lent-holds}
-use Rattle.sender.proofs.Due.{due}
+use Rattle.sender_steps.specs.Record.{lentOf}
+use Rattle.sender_steps.specs.Transmit.{waitsOf, dataHeader, partOf, frameOf, sentOf}
+use Rattle.sender.specs.Transmit.{nextOf}
+use Rattle.sender_steps.specs.declared.types.Sender.{Sender}
+use Rattle.sender_steps.proofs.Held.{held, lent-holds}
+use Rattle.sender_steps.proofs.Due.{due}
 use Rattle.initiator.specs.WriteSend as write
 use Rattle.initiator.specs.declared.types.Writer.{Writer}
-use Rattle.initiator.proofs.WriteTold.{kept-says}
+use Rattle.initiator.proofs.WriteReturns.{kept-says}
 use Rattle.target.specs.ReadSend.{readNextOf}
 use Rattle.ladder_run.specs.Ends.{askOf}
 use Rattle.ladder_run.specs.Row.{handed, bit, shownOf}
@@ -62,7 +64,7 @@ module _ (s : Sender) (d out : List ℕ) where
   unfolding nextOf hands pick
   next-hands = go (entryOf (lentOf s (length d)) (s .ended)) (waitsOf s) (leb (length (frameOf s d)) (length out)) refl refl
     where
-      go : (e : Entry) (w t : Bool) → e ≡ entryOf (lentOf s (length d)) (s .ended) → waitsOf s ≡ w → Hands d (frameOf s d) (unless e s (pick w (s saying Said.told Word.wait) (pick t (sentOf s saying Said.frame (length (frameOf s d))) (s saying Said.refused 3))) .says)
+      go : (e : Entry) (w t : Bool) → e ≡ entryOf (lentOf s (length d)) (s .ended) → waitsOf s ≡ w → Hands d (frameOf s d) (unless e s (pick w (s saying Said.word Word.wait) (pick t (sentOf s saying Said.frame (length (frameOf s d))) (s saying Said.refused 3))) .says)
       go (Closed why) w t p q = Hands.nothing refl
       go Open true t p q = Hands.nothing refl
       go Open false false p q = Hands.nothing refl
@@ -108,7 +110,7 @@ shown-small f h = go (wellFormed f) (isType (getD f 0 0)) refl
     none : SmallShown (record { offset = 0; bytes = 0; cdp = 0 })
     none = record { offset = omega arith; bytes = omega arith; cdp = omega arith }
 
-    go : (t u : Bool) → wellFormed f ≡ t → SmallShown (shownOf (pick t (pick u (Outcome.value (parsed f)) (Outcome.number 6)) (Outcome.number 5)))
+    go : (t u : Bool) → wellFormed f ≡ t → SmallShown (shownOf (pick t (pick u (Result.value (parsed f)) (Result.number 6)) (Result.number 5)))
     go true true e = let k = each (form f) e in record { offset = h; bytes = omega (arith, leb-true (length f) 1_048 (k .1 .0)); cdp = bit-most (headerIn f .flags .cdp) }
     go true false e = none
     go false u e = none

@@ -24,9 +24,9 @@ abbrev pub askOf : Sending → List ℕ → List ℕ → Called Sending
 askOf (sending.Read s) d out = called sending.Read (readPorts .ask s d out)
 askOf (sending.Write w) d out = called sending.Write (writePorts .ask w d out)
 
-abbrev pub toldOf : Signal → Sending → Left Sending
-toldOf g (sending.Read s) = onto sending.Read (readPorts .signal g s)
-toldOf g (sending.Write w) = onto sending.Write (writePorts .signal g w)
+abbrev pub signalledOf : Signal → Sending → Left Sending
+signalledOf g (sending.Read s) = onto sending.Read (readPorts .signal g s)
+signalledOf g (sending.Write w) = onto sending.Write (writePorts .signal g w)
 
 -- a frame arrives whole: its bytes, the data buffer
 abbrev pub arriveOf : Receiving → List ℕ → List ℕ → Called Receiving

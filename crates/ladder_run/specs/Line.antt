@@ -35,27 +35,27 @@ verdictOf fs l =
     record { outcome = outcomeOf (l .report); number = numberOf (l .report); frames = l .frames; faults = faultsOf fs (l .frames); filled = filledOf (l .receiving) }
 
 -- a line, what is left of the ladder, and the received data
-pub record Told : Type 0 where
+pub record NextLine : Type 0 where
   pub ladder : Ladder
   pub line : Line
   pub received : List ℕ
 
-abbrev pub toldBy : Next → List ℕ → Told
-toldBy x b = record { ladder = x .ladder; line = x .line; received = b }
+abbrev pub nextLineBy : Next → List ℕ → NextLine
+nextLineBy x b = record { ladder = x .ladder; line = x .line; received = b }
 
 -- a new round has begun: its first frame, or none is due and the ladder is over
 abbrev pub lastly : List ℕ → Ladder → Due → Next
 lastly fs l (due.Row r) = record { ladder = l; line = line.Row r }
 lastly fs l due.Nothing = record { ladder = l; line = line.Verdict (verdictOf fs l) }
 
-abbrev pub begins : List ℕ → Sent → Told
-begins fs x = toldBy (lastly fs (x .ladder) (x .due)) (x .received)
+abbrev pub begins : List ℕ → Sent → NextLine
+begins fs x = nextLineBy (lastly fs (x .ladder) (x .due)) (x .received)
 
 -- "Frames go out until wait, then answers come in order, then a timeout if any is missing"
-abbrev pub firstly : List ℕ → List ℕ → Ladder → Due → List ℕ → Told
+abbrev pub firstly : List ℕ → List ℕ → Ladder → Due → List ℕ → NextLine
 firstly fs d l (due.Row r) b = record { ladder = l; line = line.Row r; received = b }
 firstly fs d l due.Nothing b = begins fs (outOf (closedOf fs l) fs d b)
 
 -- fates, sent data, received data
-unfoldable pub lineOf : Ladder → List ℕ → List ℕ → List ℕ → Told
+unfoldable pub lineOf : Ladder → List ℕ → List ℕ → List ℕ → NextLine
 lineOf l fs d b = let x = outOf l fs d b in firstly fs d (x .ladder) (x .due) (x .received)

@@ -1,12 +1,12 @@
 -- "Frames go out until wait": one frame asked for, and its fate.
 use Prim.Native.Nat.{ℕ, _+_}
 use mathlib.Core.List.{List}
-use mathlib.Core.Bool.{Bool, true, false, _&&_}
+use mathlib.Core.Bool.{Bool, true, false, cond, _&&_}
 use lib.ListN.{take, replicate}
 use lib.Dec.{ltb, eqb}
-use Rattle.status.specs.Pick.{pick}
-use Rattle.status.specs.Answer.{Word, Said}
-use Rattle.status.specs.Outcome.{Outcome}
+use Rattle.status.specs.Pick.{pick, ifAny}
+use Rattle.status.specs.Answer.{Said, view, number, stores}
+use Rattle.status.specs.Result.{Result}
 use Rattle.frame.specs.Read.{decode}
 use Rattle.frame.specs.declared.types.Parsed.{Parsed}
 use Rattle.link.specs.Ports.{Called}
@@ -33,41 +33,20 @@ area = replicate 1_048 0
 
 -- the length of the frame that was handed out; 0 where none was
 abbrev pub handed : Said → ℕ
-handed (Said.frame n) = n
-handed (Said.refused n) = 0
-handed (Said.failed f n) = 0
-handed (Said.delivered n) = 0
-handed Said.stored = 0
-handed Said.received = 0
-handed (Said.burst t) = 0
-handed (Said.response start len o n) = 0
-handed (Said.told w) = 0
+handed a = ifAny (view a .frame) (λ n. n) 0
 
 -- "receiver (`stored`, `discarded`, `none` where nothing arrived, or the number it gave)"; 0 stands for what no DATA frame is answered
 abbrev pub receiptOf : Said → Receipt
-receiptOf Said.stored = Stored
-receiptOf Said.received = Stored
-receiptOf (Said.told Word.discarded) = Discarded
-receiptOf (Said.refused n) = Number n
-receiptOf (Said.failed f n) = Number f
-receiptOf (Said.frame n) = Number 0
-receiptOf (Said.delivered n) = Number 0
-receiptOf (Said.burst t) = Number 0
-receiptOf (Said.response start len o n) = Number 0
-receiptOf (Said.told Word.wait) = Number 0
-receiptOf (Said.told Word.taken) = Number 0
-receiptOf (Said.told Word.retry) = Number 0
-receiptOf (Said.told Word.unchanged) = Number 0
-receiptOf (Said.told Word.acknowledged) = Number 0
+receiptOf a = cond (stores a) Stored (cond (view a .discards) Discarded (Number (number a)))
 
 abbrev pub bit : Bool → ℕ
 bit true = 1
 bit false = 0
 
 -- "offset, bytes, CDP", as the frame itself has them
-abbrev pub shownOf : Outcome Parsed → Shown
-shownOf (Outcome.value p) = record { offset = p .header .offset; bytes = p .len; cdp = bit (p .header .flags .cdp) }
-shownOf (Outcome.number n) = record { offset = 0; bytes = 0; cdp = 0 }
+abbrev pub shownOf : Result Parsed → Shown
+shownOf (Result.value p) = record { offset = p .header .offset; bytes = p .len; cdp = bit (p .header .flags .cdp) }
+shownOf (Result.number n) = record { offset = 0; bytes = 0; cdp = 0 }
 
 -- a frame met its fate: the receiving port, its word, its data buffer
 pub record Meeting : Type 0 where

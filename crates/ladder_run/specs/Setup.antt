@@ -5,18 +5,18 @@ use lib.ListN.{take}
 use lib.Dec.{leb}
 use Rattle.status.specs.Pick.{pick}
 use Rattle.status.specs.Number.{refusalNumber}
-use Rattle.status.specs.Outcome.{Outcome}
+use Rattle.status.specs.Result.{Result}
 use Rattle.transfer.specs.declared.Transfer.{Transfer}
 use Rattle.sender.specs.Record as sender
-use Rattle.sender.specs.declared.types.Sender.{Sender}
+use Rattle.sender_steps.specs.declared.types.Sender.{Sender}
 use Rattle.receiver.specs.Record as receiver
-use Rattle.receiver.specs.declared.types.Receiver.{Receiver}
+use Rattle.receiver_steps.specs.declared.types.Receiver.{Receiver}
 use Rattle.initiator.specs.WriteRecord as initiator
 use Rattle.initiator.specs.WriteTake.{writeArrivalOf}
 use Rattle.initiator.specs.declared.types.Writer.{Writer}
 use Rattle.target.specs.Record as target
 use Rattle.target.specs.Transmit.{nextOf}
-use Rattle.target.specs.Answer.{ackOf}
+use Rattle.target.specs.Confirmation.{ackOf}
 use Rattle.target.specs.declared.types.Target.{Target}
 use Rattle.link.specs.Claim.{xferRdySent}
 use Rattle.ladder_text.specs.declared.types.Run.{Run}
@@ -51,10 +51,10 @@ transferOf r write local remote =
 abbrev pub fresh : Sending → Receiving → Ladder
 fresh s r = record { sending = s; receiving = r; frames = 0; before = 0; report = Nothing }
 
-abbrev pub readyRead : Outcome Sender → Outcome Receiver → Outcome Ladder
-readyRead (Outcome.number n) r = Outcome.number n
-readyRead (Outcome.value s) (Outcome.number n) = Outcome.number n
-readyRead (Outcome.value s) (Outcome.value r) = Outcome.value (fresh (sending.Read s) (receiving.Read r))
+abbrev pub readyRead : Result Sender → Result Receiver → Result Ladder
+readyRead (Result.number n) r = Result.number n
+readyRead (Result.value s) (Result.number n) = Result.number n
+readyRead (Result.value s) (Result.value r) = Result.value (fresh (sending.Read s) (receiving.Read r))
 
 -- the target hands out its XFER_RDY, the initiator takes it, the target gets the ACK
 unfoldable pub exchanged : Writer → Target → Ladder
@@ -62,20 +62,20 @@ exchanged w y =
     fresh (sending.Write (writeArrivalOf w (xferRdySent y area (handed (nextOf y area .says))) .left))
     (receiving.Write (ackOf (nextOf y area .left) .left))
 
-abbrev pub readyWrite : Outcome Writer → Outcome Target → Outcome Ladder
-readyWrite (Outcome.number n) y = Outcome.number n
-readyWrite (Outcome.value w) (Outcome.number n) = Outcome.number n
-readyWrite (Outcome.value w) (Outcome.value y) = Outcome.value (exchanged w y)
+abbrev pub readyWrite : Result Writer → Result Target → Result Ladder
+readyWrite (Result.number n) y = Result.number n
+readyWrite (Result.value w) (Result.number n) = Result.number n
+readyWrite (Result.value w) (Result.value y) = Result.value (exchanged w y)
 
-abbrev pub readySetUp : Direction → Run → Outcome Ladder
+abbrev pub readySetUp : Direction → Run → Result Ladder
 readySetUp Read r = readyRead (sender.setUpReadOf (transferOf r false TARGET INITIATOR)) (receiver.setUpReadOf (transferOf r false INITIATOR TARGET))
 readySetUp Write r = readyWrite (initiator.setUpWriteOf (transferOf r true INITIATOR TARGET)) (target.setUpWriteOf (transferOf r true TARGET INITIATOR))
 
 -- "takes counts to 65,536"; the other limits are the transfer's: 1
-unfoldable pub setUpOf : Run → Outcome Ladder
-setUpOf r = pick (leb (r .count) 65_536) (readySetUp (r .direction) r) (Outcome.number 1)
+unfoldable pub setUpOf : Run → Result Ladder
+setUpOf r = pick (leb (r .count) 65_536) (readySetUp (r .direction) r) (Result.number 1)
 
 -- what the set-up answers: the ladder, or a number
-abbrev pub made : Setup → Outcome Ladder
-made (Ready l) = Outcome.value l
-made (Refused why) = Outcome.number (refusalNumber why)
+abbrev pub made : Setup → Result Ladder
+made (Ready l) = Result.value l
+made (Refused why) = Result.number (refusalNumber why)

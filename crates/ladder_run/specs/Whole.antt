@@ -4,7 +4,7 @@ use mathlib.Core.List.{List, [], _∷_}
 use Rattle.ladder_text.specs.declared.types.Row.{Row}
 use Rattle.ladder_text.specs.declared.types.Verdict.{Verdict}
 use Rattle.ladder_run.specs.Row.{ROWS-MOST}
-use Rattle.ladder_run.specs.Line.{Told, lineOf}
+use Rattle.ladder_run.specs.Line.{NextLine, lineOf}
 use Rattle.ladder_run.specs.declared.types.Ladder.{Ladder}
 use Rattle.ladder_run.specs.declared.types.Line.{Line}
 use Rattle.ladder_run.specs.declared.types.Line.the-variants as line

@@ -1,9 +1,9 @@
 // The two ports of a ladder, of either direction.
 ghost use mathlib.Core.Path.{_≡_};
-ghost use Rattle.sender.specs.Record as sender;
+ghost use Rattle.sender_steps.specs.Record as sender;
 ghost use Rattle.initiator.specs.WriteRecord as initiator;
 ghost use Rattle.link.specs.Ports.{lending, Signal};
-ghost use Rattle.ladder_run.specs.Ends.{onto, asked, arrived, askOf, toldOf, arriveOf, filledOf};
+ghost use Rattle.ladder_run.specs.Ends.{onto, asked, arrived, askOf, signalledOf, arriveOf, filledOf};
 ghost use Rattle.ladder_run.specs.declared.types.Sending.the-variants as sending;
 use crate::types::Arrived;
 use crate::types::Asked;
@@ -43,7 +43,7 @@ pub(crate) fn ask(s: Sending, source: &[u8], out: &mut [u8]) -> Asked
 }
 
 pub(crate) fn ack(s: Sending) -> Asked
-    ensures { λ r. ⌜ asked r ≡ toldOf Signal.ack s ⌝ }
+    ensures { λ r. ⌜ asked r ≡ signalledOf Signal.ack s ⌝ }
 {
     match s {
         Sending::Read(x) => read_left(target::read_ack_received(x)),
@@ -52,7 +52,7 @@ pub(crate) fn ack(s: Sending) -> Asked
 }
 
 pub(crate) fn nak(s: Sending) -> Asked
-    ensures { λ r. ⌜ asked r ≡ toldOf Signal.nak s ⌝ }
+    ensures { λ r. ⌜ asked r ≡ signalledOf Signal.nak s ⌝ }
 {
     match s {
         Sending::Read(x) => read_left(target::read_nak_received(x)),
@@ -61,7 +61,7 @@ pub(crate) fn nak(s: Sending) -> Asked
 }
 
 pub(crate) fn timeout(s: Sending) -> Asked
-    ensures { λ r. ⌜ asked r ≡ toldOf Signal.timeout s ⌝ }
+    ensures { λ r. ⌜ asked r ≡ signalledOf Signal.timeout s ⌝ }
 {
     match s {
         Sending::Read(x) => read_left(target::read_ack_nak_timeout(x)),

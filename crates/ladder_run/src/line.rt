@@ -1,6 +1,6 @@
 // The next line of a ladder.
 ghost use mathlib.Core.Path.{_≡_};
-ghost use Rattle.ladder_run.specs.Line.{outcomeOf, numberOf, verdictOf, toldBy, lastly, lineOf};
+ghost use Rattle.ladder_run.specs.Line.{outcomeOf, numberOf, verdictOf, nextLineBy, lastly, lineOf};
 use crate::ends;
 use crate::fates;
 use crate::round;
@@ -70,7 +70,7 @@ fn begin(x: Out, fates: &[u8]) -> Next
 
 // The next row, or the verdict once nothing more is due: the fates, the data sent, the data received. After the verdict the same again.
 pub fn next_line(l: Ladder, fates: &[u8], source: &[u8], received: &mut [u8]) -> Next
-    ensures { λ r. ⌜ toldBy r (now (received .exit)) ≡ lineOf l (now (fates .entry)) (now (source .entry)) (now (received .entry)) ⌝ }
+    ensures { λ r. ⌜ nextLineBy r (now (received .exit)) ≡ lineOf l (now (fates .entry)) (now (source .entry)) (now (received .entry)) ⌝ }
 {
     let x = row::frame_out(l, fates, source, received);
     let after = x.ladder;

@@ -3,14 +3,14 @@ ghost use mathlib.Core.Path.{_≡_};
 ghost use Prim.Native.Nat.{_-_};
 ghost use Rattle.status.specs.Answer.{says};
 ghost use Rattle.ladder_run.specs.Ends.{asked};
-ghost use Rattle.ladder_run.specs.Round.{reportOf, firstOf, tellsOf, missesOf, answeredBy, answersOf, timedOut, openedOf, closedOf};
+ghost use Rattle.ladder_run.specs.Round.{reportOf, firstOf, notedOf, missesOf, confirmedBy, confirmationsOf, timedOut, openedOf, closedOf};
 use crate::ends;
 use crate::fates;
 use crate::types::Asked;
+use crate::types::Confirming;
 use crate::types::Ladder;
 use crate::types::Report;
 use crate::types::Sending;
-use crate::types::Told;
 use ladder_text::Fate;
 use status::Answer;
 
@@ -21,24 +21,7 @@ fn reports(a: Answer) -> Report
     match a {
         Answer::Delivered(n) => Report::Delivered(n),
         Answer::Failed(why, n) => Report::Failed(why.number(), n),
-        Answer::Refused(_) => Report::Nothing,
-        Answer::Wait => Report::Nothing,
-        Answer::Frame(_) => Report::Nothing,
-        Answer::Taken => Report::Nothing,
-        Answer::Retry => Report::Nothing,
-        Answer::Unchanged => Report::Nothing,
-        Answer::Acknowledged => Report::Nothing,
-        Answer::Discarded => Report::Nothing,
-        Answer::Stored => Report::Nothing,
-        Answer::Received => Report::Nothing,
-        Answer::NextBurst => Report::Nothing,
-        Answer::NextBurstDelivers(_) => Report::Nothing,
-        Answer::Repeated => Report::Nothing,
-        Answer::Response {
-            iu: _,
-            opened: _,
-            frames: _,
-        } => Report::Nothing,
+        _ => Report::Nothing,
     }
 }
 
@@ -54,87 +37,87 @@ fn first(old: Report, new: Report) -> Report
 }
 
 // The port as a signal leaves it, with what it reported.
-fn tell(x: Told, y: Asked) -> Told
-    ensures { λ r. ⌜ r ≡ tellsOf x (asked y) ⌝ }
+fn note(x: Confirming, y: Asked) -> Confirming
+    ensures { λ r. ⌜ r ≡ notedOf x (asked y) ⌝ }
 {
     let old = x.report;
     let left = y.sending;
     let answer = y.answer;
-    Told {
+    Confirming {
         sending: left,
         report: first(old, reports(answer)),
         missing: x.missing,
     }
 }
 
-fn miss(x: Told) -> Told
+fn miss(x: Confirming) -> Confirming
     ensures { λ r. ⌜ r ≡ missesOf x ⌝ }
 {
     let sending = x.sending;
     let report = x.report;
-    Told {
+    Confirming {
         sending: sending,
         report: report,
         missing: true,
     }
 }
 
-// The answer to a frame of that fate reaches the sending port, or is missing.
-fn answer(x: Told, fate: Fate) -> Told
-    ensures { λ r. ⌜ r ≡ answeredBy fate x ⌝ }
+// The confirmation of a frame of that fate reaches the sending port, or is missing.
+fn confirm(x: Confirming, fate: Fate) -> Confirming
+    ensures { λ r. ⌜ r ≡ confirmedBy fate x ⌝ }
 {
     let sending = x.sending;
     match fate {
-        Fate::Ok => tell(x, ends::ack(sending)),
-        Fate::Bad => tell(x, ends::nak(sending)),
+        Fate::Ok => note(x, ends::ack(sending)),
+        Fate::Bad => note(x, ends::nak(sending)),
         Fate::Noack => miss(x),
         Fate::Nonak => miss(x),
         Fate::Lost => miss(x),
     }
 }
 
-// The answers to the frames of a round, in order.
-fn answers(start: Told, fates: &[u8], from: u32, to: u32) -> Told
-    ensures { λ r. ⌜ r ≡ answersOf (now (fates .entry)) (to - from) from start ⌝ }
+// The confirmations of the frames of a round, in order.
+fn confirmations(start: Confirming, fates: &[u8], from: u32, to: u32) -> Confirming
+    ensures { λ r. ⌜ r ≡ confirmationsOf (now (fates .entry)) (to - from) from start ⌝ }
 {
     let mut x = start;
     let mut i = from;
     while i < to {
-        x = answer(x, fates::fate_of(fates, i));
+        x = confirm(x, fates::fate_of(fates, i));
         i += 1;
     }
     x
 }
 
 // "then a timeout if any is missing"
-fn time_out(x: Told) -> Told
+fn time_out(x: Confirming) -> Confirming
     ensures { λ r. ⌜ r ≡ timedOut x ⌝ }
 {
     let sending = x.sending;
     if x.missing {
-        return tell(x, ends::timeout(sending));
+        return note(x, ends::timeout(sending));
     }
     x
 }
 
-fn opened(l: Ladder) -> Told
+fn opened(l: Ladder) -> Confirming
     ensures { λ r. ⌜ r ≡ openedOf l ⌝ }
 {
     let sending = l.sending;
     let report = l.report;
-    Told {
+    Confirming {
         sending: sending,
         report: report,
         missing: false,
     }
 }
 
-// The round's answers and timeout.
+// The round's confirmations and timeout.
 pub(crate) fn close(l: Ladder, fates: &[u8]) -> Ladder
     ensures { λ r. ⌜ r ≡ closedOf (now (fates .entry)) l ⌝ }
 {
     let receiving = l.receiving;
-    let x = time_out(answers(opened(l), fates, l.before, l.frames));
+    let x = time_out(confirmations(opened(l), fates, l.before, l.frames));
     let sending = x.sending;
     let report = x.report;
     Ladder {

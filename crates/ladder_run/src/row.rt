@@ -33,25 +33,7 @@ pub(crate) fn handed(a: Answer) -> usize
 {
     match a {
         Answer::Frame(n) => n,
-        Answer::Refused(_) => 0,
-        Answer::Failed(_, _) => 0,
-        Answer::Wait => 0,
-        Answer::Taken => 0,
-        Answer::Retry => 0,
-        Answer::Unchanged => 0,
-        Answer::Delivered(_) => 0,
-        Answer::Acknowledged => 0,
-        Answer::Discarded => 0,
-        Answer::Stored => 0,
-        Answer::Received => 0,
-        Answer::NextBurst => 0,
-        Answer::NextBurstDelivers(_) => 0,
-        Answer::Repeated => 0,
-        Answer::Response {
-            iu: _,
-            opened: _,
-            frames: _,
-        } => 0,
+        _ => 0,
     }
 }
 
@@ -63,23 +45,7 @@ fn receipt(a: Answer) -> Receipt
         Answer::Stored => Receipt::Stored,
         Answer::Received => Receipt::Stored,
         Answer::Discarded => Receipt::Discarded,
-        Answer::Refused(why) => Receipt::Number(wide(why.number())),
-        Answer::Failed(why, _) => Receipt::Number(wide(why.number())),
-        Answer::Wait => Receipt::Number(0),
-        Answer::Frame(_) => Receipt::Number(0),
-        Answer::Taken => Receipt::Number(0),
-        Answer::Retry => Receipt::Number(0),
-        Answer::Unchanged => Receipt::Number(0),
-        Answer::Delivered(_) => Receipt::Number(0),
-        Answer::Acknowledged => Receipt::Number(0),
-        Answer::NextBurst => Receipt::Number(0),
-        Answer::NextBurstDelivers(_) => Receipt::Number(0),
-        Answer::Repeated => Receipt::Number(0),
-        Answer::Response {
-            iu: _,
-            opened: _,
-            frames: _,
-        } => Receipt::Number(0),
+        _ => Receipt::Number(wide(a.number())),
     }
 }
 

@@ -51,11 +51,14 @@ fn read(r: Run) -> Setup
 {
     let t = transfer(r, false, Ladder::TARGET, Ladder::INITIATOR);
     let u = transfer(r, false, Ladder::INITIATOR, Ladder::TARGET);
-    match sender::set_up_read(t) {
-        sender::Setup::Refused(why) => Setup::Refused(why),
-        sender::Setup::Ready(s) => match receiver::set_up_read(u) {
-            receiver::Setup::Refused(why) => Setup::Refused(why),
-            receiver::Setup::Ready(x) => Setup::Ready(fresh(Sending::Read(s), Receiving::Read(x))),
+    match target::set_up_read(t) {
+        target::ReadSetup::Refused(why) => Setup::Refused(why),
+        target::ReadSetup::Ready(s) => match initiator::set_up_read(u) {
+            initiator::ReadSetup::Refused(why) => Setup::Refused(why),
+            initiator::ReadSetup::Ready(x) => Setup::Ready(fresh(
+                Sending::Read(s),
+                Receiving::Read(x),
+            )),
         },
     }
 }
@@ -65,12 +68,12 @@ fn exchange(w: Writer, y: Target) -> Ladder
     ensures { λ l. ⌜ l ≡ exchanged w y ⌝ }
 {
     let mut area = [0; 1048];
-    let issued = target::next_frame(y, &mut area);
+    let issued = target::write_next_frame(y, &mut area);
     let answer = issued.answer;
     let unanswered = issued.target;
     let n = row::handed(answer);
     let taken = initiator::write_frame_received(w, &area[0..n]);
-    let acked = target::ack_received(unanswered);
+    let acked = target::write_ack_received(unanswered);
     let s = taken.writer;
     let x = acked.target;
     fresh(Sending::Write(s), Receiving::Write(x))
@@ -84,8 +87,8 @@ fn write(r: Run) -> Setup
     match initiator::set_up_write(t) {
         WriteSetup::Refused(why) => Setup::Refused(why),
         WriteSetup::Ready(w) => match target::set_up_write(u) {
-            target::Setup::Refused(why) => Setup::Refused(why),
-            target::Setup::Ready(y) => Setup::Ready(exchange(w, y)),
+            target::WriteSetup::Refused(why) => Setup::Refused(why),
+            target::WriteSetup::Ready(y) => Setup::Ready(exchange(w, y)),
         },
     }
 }

@@ -81,8 +81,8 @@ pub struct Met {
     pub receipt: ladder_text::Receipt,
 }
 
-// The sending port while answers come; some answer is missing.
-pub struct Told {
+// The sending port while confirmations come; one of them is missing.
+pub struct Confirming {
     pub sending: Sending,
     pub report: Report,
     pub missing: bool,

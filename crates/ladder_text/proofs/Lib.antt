@@ -16,4 +16,4 @@ pub mod Place
 pub mod Puts
 pub mod Room
 pub mod Ranges
-pub mod Answers
+pub mod WorkedTexts

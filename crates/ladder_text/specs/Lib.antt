@@ -6,4 +6,4 @@ pub mod Rows
 pub mod Place
 pub mod RunFile
 pub mod Laws
-pub mod Answers
+pub mod WorkedTexts

@@ -29,7 +29,7 @@ pub enum ReadDirection {
     Misfit,
 }
 
-// What becomes of a frame and of its answer.
+// What becomes of a frame and of its confirmation.
 pub enum Fate {
     Ok,
     // ACK lost

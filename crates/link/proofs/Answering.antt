@@ -8,16 +8,16 @@ use native.Mathlib.Nat.{mul-le-mul-left, mul-suc}
 use native.Mathlib.Omega.{arith}
 use lib.ListN.{length}
 use Rattle.status.specs.Pick.{pick}
-use Rattle.sender.specs.Answer.{loweredOf, movedOf, deliveredOf}
-use Rattle.sender.specs.declared.types.Sender.{Sender}
-use Rattle.sender.proofs.Held.{held}
+use Rattle.sender_steps.specs.Confirmation.{loweredOf, movedOf, deliveredOf}
+use Rattle.sender_steps.specs.declared.types.Sender.{Sender}
+use Rattle.sender_steps.proofs.Held.{held}
 use Rattle.sender.proofs.Kept.{lowered-holds, moved-holds, delivered-holds}
 use Rattle.sender.proofs.Views.{Settled, acked, naked}
-use Rattle.receiver.proofs.Held as receiver
+use Rattle.receiver_steps.proofs.Held as receiver
 use Rattle.status.specs.Answer.{Said, Left}
 use Rattle.link.specs.Ports.{Signal, Ports}
-use Rattle.link.specs.Tally.{Answer, answerFault}
-use Rattle.link.specs.World.{World, Report, Event, noted, answers, losesAnswer, step}
+use Rattle.link.specs.Tally.{Confirmation, confirmationFault}
+use Rattle.link.specs.World.{World, Report, Event, noted, confirms, losesConfirmation, step}
 use Rattle.link.proofs.Grid.{at-most, at-mono, inside-at}
 use Rattle.link.proofs.Setting.{Setting, place, within, enough, piece, sized}
 use Rattle.link.proofs.Simulates.{Simulates}
@@ -36,7 +36,7 @@ module _ {P : Ports} (S : Setting) (M : Simulates P (S .tptt)) (w : World P) (l 
   open Live l using (s, r, c, k, m, j, R, ported, stored, reached, marked, linked, pending, counted, standing, silent)
 
   -- an answer less on the way; y is the port's state then and q its report
-  abbrev lowered : List Answer → P .Sending → Report → World P
+  abbrev lowered : List Confirmation → P .Sending → Report → World P
   lowered rest y q =
       record {
         sending = y;
@@ -44,13 +44,13 @@ module _ {P : Ports} (S : Setting) (M : Simulates P (S .tptt)) (w : World P) (l 
         sent = w .sent;
         received = w .received;
         frames = w .frames;
-        answers = rest;
+        confirmations = rest;
         tally = record { unanswered = w .tally .unanswered - 1; lost = w .tally .lost; faults = w .tally .faults };
         handed = w .handed;
         report = q;
       }
 
-  module _ (rest : List Answer) (nak : Bool) (n : length (w .frames) + length rest + w .tally .lost ≡ s .unanswered - 1) (some : 0 < s .unanswered)
+  module _ (rest : List Confirmation) (nak : Bool) (n : length (w .frames) + length rest + w .tally .lost ≡ s .unanswered - 1) (some : 0 < s .unanswered)
       (st : Standing S rest nak (w .tally .lost) c k (r .waiting) (r .expected) (r .filled) R (w .tally .faults)) (y : P .Sending) where
     ported′ : Ported S M (w .receiving) (loweredOf s nak) r
     ported′ =
@@ -78,7 +78,7 @@ module _ {P : Ports} (S : Setting) (M : Simulates P (S .tptt)) (w : World P) (l 
             sent = w .sent;
             received = w .received;
             frames = sym no-frames i;
-            answers = sym no-answers i;
+            confirmations = sym no-answers i;
             tally = record { unanswered = sym none-open i; lost = sym none-lost i; faults = w .tally .faults };
             handed = w .handed;
             report = q;
@@ -186,36 +186,36 @@ module _ {P : Ports} (S : Setting) (M : Simulates P (S .tptt)) (w : World P) (l 
     settle-keeps (Settled.moves z q u) h = moves z q u h
     settle-keeps (Settled.delivers z q d) h = rw silent (delivers z q d h)
 
-  unreported : {rest : List Answer} (x : Left (P .Sending)) {t : Said} → x .says ≡ t → Inv S M (lowered rest (x .left) (noted t (w .report))) → Inv S M (lowered rest (x .left) (noted (x .says) (w .report)))
+  unreported : {rest : List Confirmation} (x : Left (P .Sending)) {t : Said} → x .says ≡ t → Inv S M (lowered rest (x .left) (noted t (w .report))) → Inv S M (lowered rest (x .left) (noted (x .says) (w .report)))
   unreported {rest} x e h = subst (λ (v : Said). Inv S M (lowered rest (x .left) (noted v (w .report)))) (sym e) h
 
   -- how the attempt stands once the first answer is off the way
-  pub ack-off : {rest : List Answer} → Standing S (Answer.ack ∷ rest) (s .nak) (w .tally .lost) c k (r .waiting) (r .expected) (r .filled) R (w .tally .faults) → Standing S rest (s .nak) (w .tally .lost) c k (r .waiting) (r .expected) (r .filled) R (w .tally .faults)
+  pub ack-off : {rest : List Confirmation} → Standing S (Confirmation.ack ∷ rest) (s .nak) (w .tally .lost) c k (r .waiting) (r .expected) (r .filled) R (w .tally .faults) → Standing S rest (s .nak) (w .tally .lost) c k (r .waiting) (r .expected) (r .filled) R (w .tally .faults)
   ack-off (Standing.clean a b d i) = Standing.clean a b d i
   ack-off (Standing.dirty (inl h) p) = Standing.dirty (inl h) p
   ack-off (Standing.dirty (inr h) p) = Standing.dirty (inr h) p
 
-  pub nak-off : {rest : List Answer} → Standing S (Answer.nak ∷ rest) (s .nak) (w .tally .lost) c k (r .waiting) (r .expected) (r .filled) R (w .tally .faults) → Standing S rest true (w .tally .lost) c k (r .waiting) (r .expected) (r .filled) R (w .tally .faults)
+  pub nak-off : {rest : List Confirmation} → Standing S (Confirmation.nak ∷ rest) (s .nak) (w .tally .lost) c k (r .waiting) (r .expected) (r .filled) R (w .tally .faults) → Standing S rest true (w .tally .lost) c k (r .waiting) (r .expected) (r .filled) R (w .tally .faults)
   nak-off (Standing.clean a b d i) = absurd a
   nak-off (Standing.dirty h p) = Standing.dirty (inr (inl refl)) p
 
   -- the first answer reaches the port
-  reaching : (a : List Answer) → length (w .frames) + length a + w .tally .lost ≡ s .unanswered → Standing S a (s .nak) (w .tally .lost) c k (r .waiting) (r .expected) (r .filled) R (w .tally .faults) → Inv S M (answers w a)
+  reaching : (a : List Confirmation) → length (w .frames) + length a + w .tally .lost ≡ s .unanswered → Standing S a (s .nak) (w .tally .lost) c k (r .waiting) (r .expected) (r .filled) R (w .tally .faults) → Inv S M (confirms w a)
   reaching [] n g = inl l
-  reaching (Answer.ack ∷ rest) n g =
+  reaching (Confirmation.ack ∷ rest) n g =
       let a = M .signals-as Signal.ack (w .sending) s (l .sends) (ported .s-holds) in
       unreported (P .signal Signal.ack (w .sending)) (a .1)
       (settle-keeps rest (s .nak) (omega arith) (omega arith) (ack-off g) _ (acked s (ported .s-holds) (ported .s-open) (λ e. omega arith)) (a .0))
-  reaching (Answer.nak ∷ rest) n g =
+  reaching (Confirmation.nak ∷ rest) n g =
       let a = M .signals-as Signal.nak (w .sending) s (l .sends) (ported .s-holds) in
       unreported (P .signal Signal.nak (w .sending)) (a .1)
       (settle-keeps rest true (omega arith) (omega arith) (nak-off g) _ (naked s (ported .s-holds) (ported .s-open) (λ e. omega arith)) (a .0))
 
-  pub answering : Inv S M (step w Event.answered)
-  answering = reaching (w .answers) (linked .conserved) standing
+  pub answering : Inv S M (step w Event.confirmed)
+  answering = reaching (w .confirmations) (linked .conserved) standing
 
   -- the first answer is lost: a fault, unless its frame was counted when it was damaged
-  missing : (a : List Answer) → length (w .frames) + length a + w .tally .lost ≡ s .unanswered → Standing S a (s .nak) (w .tally .lost) c k (r .waiting) (r .expected) (r .filled) R (w .tally .faults) → Inv S M (losesAnswer w a)
+  missing : (a : List Confirmation) → length (w .frames) + length a + w .tally .lost ≡ s .unanswered → Standing S a (s .nak) (w .tally .lost) c k (r .waiting) (r .expected) (r .filled) R (w .tally .faults) → Inv S M (losesConfirmation w a)
   missing [] n g = inl l
   missing (a ∷ rest) n g =
       inl
@@ -224,10 +224,10 @@ module _ {P : Ports} (S : Setting) (M : Simulates P (S .tptt)) (w : World P) (l 
       (record { frames-are = counted .frames-are; most = counted .most; since = counted .since; ever = counted .ever; paid = omega (arith, counted .paid) })
       (Standing.dirty (inr (inr (omega arith))) (charged a g)) silent)
     where
-      charged : (b : Answer) → Standing S (b ∷ rest) (s .nak) (w .tally .lost) c k (r .waiting) (r .expected) (r .filled) R (w .tally .faults) → R < w .tally .faults + answerFault b
-      charged Answer.ack v = omega (arith, counted .paid)
-      charged Answer.nak (Standing.clean q b d i) = absurd q
-      charged Answer.nak (Standing.dirty h p) = omega arith
+      charged : (b : Confirmation) → Standing S (b ∷ rest) (s .nak) (w .tally .lost) c k (r .waiting) (r .expected) (r .filled) R (w .tally .faults) → R < w .tally .faults + confirmationFault b
+      charged Confirmation.ack v = omega (arith, counted .paid)
+      charged Confirmation.nak (Standing.clean q b d i) = absurd q
+      charged Confirmation.nak (Standing.dirty h p) = omega arith
 
-  pub missing-answer : Inv S M (step w Event.answer-lost)
-  missing-answer = missing (w .answers) (linked .conserved) standing
+  pub missing-answer : Inv S M (step w Event.confirmation-lost)
+  missing-answer = missing (w .confirmations) (linked .conserved) standing

@@ -11,17 +11,18 @@ use lib.Seq.{getD-take, getD-drop}
 use Rattle.transfer.specs.declared.Transfer.{Transfer}
 use Rattle.frame.specs.Format.{encode}
 use Rattle.frame.specs.Write.{placed}
-use Rattle.receiver.specs.Record.{holdsOf}
+use Rattle.receiver_steps.specs.Record.{holdsOf, lentOf}
 use Rattle.status.specs.Answer.{Said, Left}
-use Rattle.receiver.specs.DataFrame.{lentOf, waitingOf, storedOf, arrivalOf, storing}
-use Rattle.receiver.specs.declared.types.Receiver.{Receiver}
-use Rattle.receiver.proofs.Held.{Held, held, lent-again}
-use Rattle.receiver.proofs.Judged as judged
-use Rattle.receiver.proofs.Buffer.{put-down, placed-length}
+use Rattle.receiver_steps.specs.DataFrame.{waitingOf, storedOf, storing}
+use Rattle.receiver.specs.DataFrame.{arrivalOf}
+use Rattle.receiver_steps.specs.declared.types.Receiver.{Receiver}
+use Rattle.receiver_steps.proofs.Held.{Held, held, lent-again}
+use Rattle.receiver_steps.proofs.Judged as judged
+use Rattle.receiver_steps.proofs.Buffer.{put-down, placed-length}
 use Rattle.receiver.proofs.Kept.{waiting-holds, stored-holds}
 use Rattle.receiver.proofs.Views.{Kept, never-fails, reaches}
 use Rattle.link.specs.Ports.{Ports}
-use Rattle.link.specs.Tally.{Answer}
+use Rattle.link.specs.Tally.{Confirmation}
 use Rattle.link.specs.World.{World, Event, arrivesWhole, arrivesDamaged, losesFrame, step}
 use Rattle.link.proofs.Grid.{at-next, at-least, at-below, room-some, room-fits}
 use Rattle.link.proofs.Setting.{Setting, Takes, place, within, space, header, data-of, data-length, in-range, can-write, piece, sized}
@@ -42,12 +43,12 @@ module _ {P : Ports} (S : Setting) (M : Simulates P (S .tptt)) (w : World P) (l 
   open Live l using (s, r, c, k, m, j, R, sends, ported, stored, reached, marked, linked, pending, counted, standing, silent)
 
   -- the first frame on the way is frame k, the rest follows
-  module _ (fs : List (List ℕ)) (x : Flight (piece S) false (suc k) (s .cdp) j fs) (n : suc (length fs) + length (w .answers) + w .tally .lost ≡ s .unanswered) where
+  module _ (fs : List (List ℕ)) (x : Flight (piece S) false (suc k) (s .cdp) j fs) (n : suc (length fs) + length (w .confirmations) + w .tally .lost ≡ s .unanswered) where
     first-in : within S k
     first-in = marked .all-in k (ordered x)
 
     -- one frame less, one answer or loss more
-    unlinked : (a : List Answer) (lost : ℕ) → length a + lost ≡ suc (length (w .answers) + w .tally .lost) → Linked S fs a (w .tally .unanswered) lost (s .unanswered) (s .cdp) false (suc k) m j
+    unlinked : (a : List Confirmation) (lost : ℕ) → length a + lost ≡ suc (length (w .confirmations) + w .tally .lost) → Linked S fs a (w .tally .unanswered) lost (s .unanswered) (s .cdp) false (suc k) m j
     unlinked a lost e =
         let f = linked .from in
         record { flight = x; pointed = λ q. absurd (false≢true q); from = omega arith; conserved = omega arith; same = linked .same }
@@ -61,16 +62,16 @@ module _ {P : Ports} (S : Setting) (M : Simulates P (S .tptt)) (w : World P) (l 
     pub is-damaged : Inv S M (arrivesDamaged w (piece S c k ∷ fs))
     is-damaged =
         let p = counted .paid in
-        let a = length-append (w .answers) (Answer.nak ∷ []) in
+        let a = length-append (w .confirmations) (Confirmation.nak ∷ []) in
         inl
-        (live S M s r false (suc k) m j R sends ported stored reached marked (unlinked (w .answers ++ (Answer.nak ∷ [])) (w .tally .lost) (omega arith)) pending
-        faulted (Standing.dirty (inl (nak-joins (w .answers))) (omega arith)) silent)
+        (live S M s r false (suc k) m j R sends ported stored reached marked (unlinked (w .confirmations ++ (Confirmation.nak ∷ [])) (w .tally .lost) (omega arith)) pending
+        faulted (Standing.dirty (inl (nak-joins (w .confirmations))) (omega arith)) silent)
 
     pub is-lost : Inv S M (losesFrame w (piece S c k ∷ fs))
     is-lost =
         let p = counted .paid in
         inl
-        (live S M s r false (suc k) m j R sends ported stored reached marked (unlinked (w .answers) (w .tally .lost + 1) (omega arith)) pending faulted
+        (live S M s r false (suc k) m j R sends ported stored reached marked (unlinked (w .confirmations) (w .tally .lost + 1) (omega arith)) pending faulted
         (Standing.dirty (inr (inr (omega arith))) (omega arith)) silent)
 
     -- frame k's data
@@ -121,7 +122,7 @@ module _ {P : Ports} (S : Setting) (M : Simulates P (S .tptt)) (w : World P) (l 
           sent = w .sent;
           received = b;
           frames = fs;
-          answers = w .answers ++ (Answer.ack ∷ []);
+          confirmations = w .confirmations ++ (Confirmation.ack ∷ []);
           tally = record { unanswered = w .tally .unanswered; lost = w .tally .lost; faults = w .tally .faults };
           handed = w .handed;
           report = w .report;
@@ -129,25 +130,25 @@ module _ {P : Ports} (S : Setting) (M : Simulates P (S .tptt)) (w : World P) (l 
 
     acknowledged : (r′ : Receiver) (b : List ℕ) (y : P .Receiving) → M .TakesAs y r′ → Takes S r′ → holdsOf r′ ≡ true → r′ .ended ≡ false →
         Stored S (w .sent) b (r′ .filled) → r .filled ≤ r′ .filled →
-        Standing S (w .answers ++ (Answer.ack ∷ [])) (s .nak) (w .tally .lost) false (suc k) (r′ .waiting) (r′ .expected) (r′ .filled) R (w .tally .faults) → Left-by r′ b y
+        Standing S (w .confirmations ++ (Confirmation.ack ∷ [])) (s .nak) (w .tally .lost) false (suc k) (r′ .waiting) (r′ .expected) (r′ .filled) R (w .tally .faults) → Left-by r′ b y
     unfolding Left-by
     acknowledged r′ b y t tf h o st more g =
-        let a = length-append (w .answers) (Answer.ack ∷ []) in
+        let a = length-append (w .confirmations) (Confirmation.ack ∷ []) in
         let q = reached in
         inl
         (live S M s r′ false (suc k) m j R sends
         (record { takes = t; send-for = ported .send-for; take-for = tf; s-holds = ported .s-holds; s-open = ported .s-open; r-holds = h; r-open = o }) st
-        (omega arith) marked (unlinked (w .answers ++ (Answer.ack ∷ [])) (w .tally .lost) (omega arith)) pending counted g silent)
+        (omega arith) marked (unlinked (w .confirmations ++ (Confirmation.ack ∷ [])) (w .tally .lost) (omega arith)) pending counted g silent)
 
     -- the answers with the ACK behind them; what is clean is still in step by e
     stands : {waiting : Bool} {expected filled : ℕ} → (InStep S c k (r .waiting) (r .expected) (r .filled) → InStep S false (suc k) waiting expected filled) →
-        Standing S (w .answers ++ (Answer.ack ∷ [])) (s .nak) (w .tally .lost) false (suc k) waiting expected filled R (w .tally .faults)
+        Standing S (w .confirmations ++ (Confirmation.ack ∷ [])) (s .nak) (w .tally .lost) false (suc k) waiting expected filled R (w .tally .faults)
     stands {waiting} {expected} {filled} e = go standing
       where
-        go : Standing S (w .answers) (s .nak) (w .tally .lost) c k (r .waiting) (r .expected) (r .filled) R (w .tally .faults) →
-            Standing S (w .answers ++ (Answer.ack ∷ [])) (s .nak) (w .tally .lost) false (suc k) waiting expected filled R (w .tally .faults)
-        go (Standing.clean a n z i) = Standing.clean (ack-joins (w .answers) a) n z (e i)
-        go (Standing.dirty (inl a) p) = Standing.dirty (inl (nak-stays (w .answers) Answer.ack a)) p
+        go : Standing S (w .confirmations) (s .nak) (w .tally .lost) c k (r .waiting) (r .expected) (r .filled) R (w .tally .faults) →
+            Standing S (w .confirmations ++ (Confirmation.ack ∷ [])) (s .nak) (w .tally .lost) false (suc k) waiting expected filled R (w .tally .faults)
+        go (Standing.clean a n z i) = Standing.clean (ack-joins (w .confirmations) a) n z (e i)
+        go (Standing.dirty (inl a) p) = Standing.dirty (inl (nak-stays (w .confirmations) Confirmation.ack a)) p
         go (Standing.dirty (inr b) p) = Standing.dirty (inr b) p
 
     -- the buffer with frame k's data in it
@@ -214,7 +215,7 @@ module _ {P : Ports} (S : Setting) (M : Simulates P (S .tptt)) (w : World P) (l 
     addressed =
         let e = ported .take-for .transfer in
         record {
-          kind = refl;
+          frametype = refl;
           dest = S .there ∙ sym (ap (λ (u : Transfer). u .local) e);
           source = S .back ∙ sym (ap (λ (u : Transfer). u .remote) e);
           tag = S .tag ∙ sym (ap (λ (u : Transfer). u .tag) e);
@@ -230,8 +231,8 @@ module _ {P : Ports} (S : Setting) (M : Simulates P (S .tptt)) (w : World P) (l 
 
   -- by the frames on the way
   module _ (E : List (List ℕ) → World P) (same : E [] ≡ w)
-      (first : (fs : List (List ℕ)) → Flight (piece S) false (suc k) (s .cdp) j fs → suc (length fs) + length (w .answers) + w .tally .lost ≡ s .unanswered → Inv S M (E (piece S c k ∷ fs))) where
-    by-frames : (fs : List (List ℕ)) → Flight (piece S) c k (s .cdp) j fs → length fs + length (w .answers) + w .tally .lost ≡ s .unanswered → Inv S M (E fs)
+      (first : (fs : List (List ℕ)) → Flight (piece S) false (suc k) (s .cdp) j fs → suc (length fs) + length (w .confirmations) + w .tally .lost ≡ s .unanswered → Inv S M (E (piece S c k ∷ fs))) where
+    by-frames : (fs : List (List ℕ)) → Flight (piece S) c k (s .cdp) j fs → length fs + length (w .confirmations) + w .tally .lost ≡ s .unanswered → Inv S M (E fs)
     by-frames [] x n = subst (Inv S M) (sym same) (inl l)
     by-frames (g ∷ fs) x n =
         let u = uncons x in

@@ -8,14 +8,15 @@ use native.Mathlib.Omega.{arith}
 use native.Mathlib.Numerals.{add-one}
 use lib.ListN.{length, take, drop, length-append}
 use lib.Seq.{take-at}
-use Rattle.frame.specs.Write.{over}
+use Rattle.frame.specs.Write.{over, handing}
 use Rattle.transfer.specs.declared.Transfer.{Transfer}
 use Rattle.status.specs.Answer.{Said, Left}
-use Rattle.frame.specs.Write.{handing}
-use Rattle.sender.specs.Transmit.{lentOf, lesser, frameOf, sentOf, nextOf}
-use Rattle.sender.specs.declared.types.Sender.{Sender}
-use Rattle.sender.proofs.Held.{held, lent-again}
-use Rattle.sender.proofs.Due.{Due}
+use Rattle.sender_steps.specs.Record.{lentOf}
+use Rattle.sender_steps.specs.Transmit.{lesser, frameOf, sentOf}
+use Rattle.sender.specs.Transmit.{nextOf}
+use Rattle.sender_steps.specs.declared.types.Sender.{Sender}
+use Rattle.sender_steps.proofs.Held.{held, lent-again}
+use Rattle.sender_steps.proofs.Due.{Due}
 use Rattle.sender.proofs.Kept.{sent-holds}
 use Rattle.sender.proofs.Views.{Asked, asked}
 use Rattle.link.specs.Ports.{Called, Ports}
@@ -39,7 +40,7 @@ module _ {P : Ports} (S : Setting) (M : Simulates P (S .tptt)) (w : World P) (l 
   open Live l using (s, r, c, k, m, j, R, sends, ported, stored, reached, marked, linked, pending, counted, standing, silent)
 
   -- the same record, another port state that stands for it
-  again : (y : P .Sending) → M .SendsAs y s → Inv S M (record { sending = y; receiving = w .receiving; sent = w .sent; received = w .received; frames = w .frames; answers = w .answers; tally = record { unanswered = w .tally .unanswered; lost = w .tally .lost; faults = w .tally .faults }; handed = w .handed; report = w .report })
+  again : (y : P .Sending) → M .SendsAs y s → Inv S M (record { sending = y; receiving = w .receiving; sent = w .sent; received = w .received; frames = w .frames; confirmations = w .confirmations; tally = record { unanswered = w .tally .unanswered; lost = w .tally .lost; faults = w .tally .faults }; handed = w .handed; report = w .report })
   again y h =
       inl
       (live S M s r c k m j R h ported stored reached marked linked pending counted standing silent)

@@ -10,12 +10,14 @@ use lib.Dec.{eqb}
 use lib.ListN.{length}
 use borrow.Author.Tests.{ne-eqb}
 use Rattle.status.specs.Pick.{pick}
-use Rattle.sender.specs.Answer.{causeOf, timeoutOf, cutOf}
-use Rattle.sender.specs.declared.types.Sender.{Sender}
+use Rattle.sender_steps.specs.Confirmation.{causeOf}
+use Rattle.sender.specs.Confirmation.{timeoutOf, cutOf}
+use Rattle.sender_steps.specs.declared.types.Sender.{Sender}
 use Rattle.sender.proofs.Views.{Retried, timed-out, cut-off, timeout-4, cut-0}
 use Rattle.status.specs.Answer.{Said, Left}
-use Rattle.link.specs.Ports.{Signal, Ports, signalled}
-use Rattle.link.specs.Tally.{Answer, cutFault, timeoutFault}
+use Rattle.link.specs.Ports.{Signal, Ports}
+use Rattle.link.specs.Calls.{signalled}
+use Rattle.link.specs.Tally.{Confirmation, cutFault, timeoutFault}
 use Rattle.link.specs.World.{World, Report, Event, noted, closes, step}
 use Rattle.link.proofs.Setting.{Setting, piece}
 use Rattle.link.proofs.Simulates.{Simulates}
@@ -41,10 +43,10 @@ module _ {P : Ports} (S : Setting) (M : Simulates P (S .tptt)) (w : World P) (l 
     no-frames : w .frames ≡ []
     no-frames = empty (w .frames) (omega (arith, linked .conserved))
 
-    no-answers : w .answers ≡ []
-    no-answers = empty (w .answers) (omega (arith, linked .conserved))
+    no-answers : w .confirmations ≡ []
+    no-answers = empty (w .confirmations) (omega (arith, linked .conserved))
 
-    in-step : Standing S (w .answers) (s .nak) (w .tally .lost) c k (r .waiting) (r .expected) (r .filled) R (w .tally .faults) → (s .nak ≡ false) × InStep S c k (r .waiting) (r .expected) (r .filled)
+    in-step : Standing S (w .confirmations) (s .nak) (w .tally .lost) c k (r .waiting) (r .expected) (r .filled) R (w .tally .faults) → (s .nak ≡ false) × InStep S c k (r .waiting) (r .expected) (r .filled)
     in-step (Standing.clean a b d i) = (b, i)
     in-step (Standing.dirty (inl q) p) = absurd (subst SomeNak no-answers q)
     in-step (Standing.dirty (inr (inl q)) p) = absurd (omega (arith, pending .nak-owed q))
@@ -64,7 +66,7 @@ module _ {P : Ports} (S : Setting) (M : Simulates P (S .tptt)) (w : World P) (l 
   charged : (fault : ℕ) → (w .tally .lost ≡ 0 → fault ≡ 1) → R < w .tally .faults + fault
   charged fault e = go standing
     where
-      go : Standing S (w .answers) (s .nak) (w .tally .lost) c k (r .waiting) (r .expected) (r .filled) R (w .tally .faults) → R < w .tally .faults + fault
+      go : Standing S (w .confirmations) (s .nak) (w .tally .lost) c k (r .waiting) (r .expected) (r .filled) R (w .tally .faults) → R < w .tally .faults + fault
       go (Standing.clean a b d i) = omega (arith, e d, counted .paid)
       go (Standing.dirty q p) = omega arith
 

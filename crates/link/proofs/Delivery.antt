@@ -7,15 +7,15 @@ use mathlib.Core.Path.{_≡_, refl, sym, ap, subst, _∙_}
 use native.Mathlib.Omega.{arith}
 use lib.ListN.{length, getD}
 use Rattle.sender.specs.Transmit.{nextOf}
-use Rattle.sender.specs.declared.types.Sender.{Sender}
-use Rattle.sender.proofs.Held.{held}
+use Rattle.sender_steps.specs.declared.types.Sender.{Sender}
+use Rattle.sender_steps.proofs.Held.{held}
 use Rattle.sender.proofs.Views.{Asked, asked}
-use Rattle.receiver.proofs.Held as receiver
+use Rattle.receiver_steps.proofs.Held as receiver
 use Rattle.status.specs.Answer.{Word, Said, Left}
 use Rattle.status.proofs.Opened.{differ}
 use Rattle.link.specs.Ports.{Signal, Ports}
 use Rattle.link.specs.World.{World, Report, Event, step, run, Allows, Allowed}
-use Rattle.link.specs.Delivers.{Burst, Concluded, Delivered, LinkFailed, Delivers}
+use Rattle.link.specs.Delivers.{BurstParameters, Concluded, Delivered, LinkFailed, Delivers}
 use Rattle.link.proofs.Setting.{Setting, limits}
 use Rattle.link.proofs.Simulates.{Simulates}
 use Rattle.link.proofs.Others.{idle-same}
@@ -39,10 +39,10 @@ module _ {P : Ports} (S : Setting) (M : Simulates P (S .tptt)) where
   step-keeps w Event.damaged (inr d) a = done.damaging S M w d
   step-keeps w Event.frame-lost (inl l) a = live-arriving.losing S M w l
   step-keeps w Event.frame-lost (inr d) a = done.losing S M w d
-  step-keeps w Event.answered (inl l) a = live-answering.answering S M w l
-  step-keeps w Event.answered (inr d) a = done.answering S M w d
-  step-keeps w Event.answer-lost (inl l) a = live-answering.missing-answer S M w l
-  step-keeps w Event.answer-lost (inr d) a = done.missing-answer S M w d
+  step-keeps w Event.confirmed (inl l) a = live-answering.answering S M w l
+  step-keeps w Event.confirmed (inr d) a = done.answering S M w d
+  step-keeps w Event.confirmation-lost (inl l) a = live-answering.missing-answer S M w l
+  step-keeps w Event.confirmation-lost (inr d) a = done.missing-answer S M w d
   step-keeps w Event.timeout (inl l) a = live-closing.timing-out S M w l
   step-keeps w Event.timeout (inr d) a = done.timing-out S M w d
   step-keeps w Event.cut (inl l) a = live-closing.cutting S M w l
@@ -56,7 +56,7 @@ module _ {P : Ports} (S : Setting) (M : Simulates P (S .tptt)) where
   run-keeps w (e ∷ es) i a = run-keeps (step w e) es (step-keeps w e i (a .0)) (a .1)
 
   -- ── the invariant gives the claim ──
-  abbrev pub burst : Burst
+  abbrev pub burst : BurstParameters
   burst = record { base = S .base; end = S .end; size = S .t .size; limit = S .limit }
 
   -- while nothing is reported a frame is due whenever none is unanswered
@@ -71,7 +71,7 @@ module _ {P : Ports} (S : Setting) (M : Simulates P (S .tptt)) where
       zero : l .s .unanswered ≡ 0
       zero = sym (l .linked .same) ∙ z
 
-      go : {x : Left Sender} → Asked (l .s) (w .sent) out x → x .says ≡ Said.told Word.wait → ⊥
+      go : {x : Left Sender} → Asked (l .s) (w .sent) out x → x .says ≡ Said.word Word.wait → ⊥
       go (Asked.waits (inl h)) q = omega (arith, zero, l .pending .nak-owed h)
       go (Asked.waits (inr (inl h))) q = omega (arith, zero, held (l .s) (l .ported .s-holds) .limits .window-least)
       go (Asked.waits (inr (inr h))) q = l .pending .undone zero (h ∙ l .ported .send-for .end)
@@ -115,9 +115,9 @@ module _ {P : Ports} (S : Setting) (M : Simulates P (S .tptt)) where
       said-count (Reported.fails g lo hi p) f n (inl e) = differ (cc)
       said-count (Reported.fails g lo hi p) f n (inr e) = cc
 
-      said-verdict : {q : Report} → Reported S M (w .received) (w .handed) (w .tally .faults) q → w .report ≡ q → Delivered w ⊎ (LinkFailed w × (S .limit < w .tally .faults))
-      said-verdict (Reported.delivers h) e = inl (length (w .handed), e)
-      said-verdict (Reported.fails f lo hi p) e = inr ((f, (length (w .handed), e, lo, hi)), p)
+      said-report : {q : Report} → Reported S M (w .received) (w .handed) (w .tally .faults) q → w .report ≡ q → Delivered w ⊎ (LinkFailed w × (S .limit < w .tally .faults))
+      said-report (Reported.delivers h) e = inl (length (w .handed), e)
+      said-report (Reported.fails f lo hi p) e = inr ((f, (length (w .handed), e, lo, hi)), p)
 
     done-claims : (w : World P) → Done S M w → Delivers burst start w
     done-claims w d =
@@ -127,8 +127,8 @@ module _ {P : Ports} (S : Setting) (M : Simulates P (S .tptt)) where
               (λ i h. d .rest i h ∙ ap (λ (b : List ℕ). getD b i 0) (sym (from .1)), d .size ∙ sym (S .before-length) ∙ ap length (sym (from .1)), d .source ∙ sym (from .0));
           bounded = d .bounded;
           counted = said-count w (d .reported);
-          concluded = λ h. ⊎-elim (λ a. inl a) (λ a. inr (a .0)) (said-verdict w (d .reported) refl);
-          succeeds = λ h few. ⊎-elim (λ a. a) (λ a. absurd (omega (arith, a .1))) (said-verdict w (d .reported) refl);
+          concluded = λ h. ⊎-elim (λ a. inl a) (λ a. inr (a .0)) (said-report w (d .reported) refl);
+          succeeds = λ h few. ⊎-elim (λ a. a) (λ a. absurd (omega (arith, a .1))) (said-report w (d .reported) refl);
         }
 
     -- from a start that is Live, after every allowed list of events

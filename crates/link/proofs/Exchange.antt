@@ -18,8 +18,8 @@ use Rattle.frame.specs.XferRdy.{xferRdyBytes}
 use Rattle.frame.specs.RoundTrip.{InRange}
 use Rattle.frame.specs.declared.types.Header.{Header}
 use Rattle.frame.specs.declared.types.XferRdy.{XferRdy}
-use Rattle.receiver.proofs.Held as receiver
-use Rattle.sender.specs.declared.types.Burst.{Burst}
+use Rattle.receiver_steps.proofs.Held as receiver
+use Rattle.sender_steps.specs.declared.types.Burst.{Burst}
 use Rattle.initiator.specs.WriteRecord.{holdsOf, beginsOf}
 use Rattle.initiator.specs.WriteCount.{takes}
 use Rattle.initiator.specs.WriteTake.{writeArrivalOf, askedOf, limitOf}
@@ -30,7 +30,7 @@ use Rattle.initiator.proofs.WriteSame.{Asks, xfer-rdy-starts, xfer-rdy-fits}
 use Rattle.initiator.proofs.WriteKept.{begins-well}
 use Rattle.target.specs.Record.{AGAIN, UNANSWERED}
 use Rattle.target.specs.Transmit.{nextOf, issuedOf, xferRdyHeader, xferRdyIu, frameOf}
-use Rattle.target.specs.Answer.{ackOf, acknowledgedOf}
+use Rattle.target.specs.Confirmation.{ackOf, acknowledgedOf}
 use Rattle.target.specs.declared.types.Target.{Target}
 use Rattle.target.proofs.Held as target
 use Rattle.target.proofs.Issue.{issued-order, burst-transfer, can-write, iu-length}
@@ -51,7 +51,7 @@ use Rattle.link.proofs.WriteSimulates.{Ready, WritesAs, TakesAs, write-
 
 module _ (x : Writer) (y : Target) (out d b : List ℕ) (n : ℕ) (hx : holdsOf x ≡ true) (ox : x .sender .ended ≡ false) (zx : x .sender .unanswered ≡ 0)
     (al : Alike (x .sender .transfer) (y .receiver .transfer)) (on : 1 ≤ x .sender .transfer .limit) (dl : length d ≡ x .sender .transfer .count) (bl : length b ≡ x .sender .transfer .count)
-    (hands : nextOf y out .says ≡ Said.frame n) (took : takes (writeArrivalOf x (xferRdySent y out n) .says) ≡ true) (acks : ackOf (nextOf y out .left) .says ≡ Said.told Word.acknowledged) where
+    (hands : nextOf y out .says ≡ Said.frame n) (took : takes (writeArrivalOf x (xferRdySent y out n) .says) ≡ true) (acks : ackOf (nextOf y out .left) .says ≡ Said.word Word.acknowledged) where
   handed : HandedOut y out n
   handed = handed-out y out n hands
 
@@ -111,14 +111,14 @@ module _ (x : Writer) (y : Target) (out d b : List ℕ) (n : ℕ) (hx : holdsOf 
   unfolding xferRdyHeader
   tag = ap (λ (v : Transfer). v .tag) same-transfer ∙ sym (al .tag)
 
-  kind : head .kind ≡ XFER-RDY
+  frametype : head .frametype ≡ XFER-RDY
   unfolding xferRdyHeader
-  kind = refl
+  frametype = refl
 
   asks : Asks x head asked
   asks =
       record {
-        kind = kind;
+        frametype = frametype;
         dest = dest;
         source = source;
         tag = tag;

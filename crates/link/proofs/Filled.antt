@@ -3,20 +3,21 @@ use Prim.Native.Nat.{ℕ, _+_, _-_, _<_}
 use mathlib.Core.List.{List, [], _∷_}
 use mathlib.Core.Bool.{Bool, true}
 use mathlib.Core.Logic.{_⊎_, inl, inr}
-use mathlib.Core.Path.{_≡_, sym, ap, _∙_}
+use mathlib.Core.Path.{_≡_, refl, sym, ap, subst, _∙_}
 use native.Mathlib.Decide.{ℕ-discrete}
 use native.Mathlib.Omega.{arith}
 use lib.ListN.{length}
 use Rattle.status.specs.Answer.{Said, Left}
 use Rattle.status.proofs.Opened.{differ}
-use Rattle.sender.specs.Answer.{loweredOf, timeoutOf}
-use Rattle.sender.specs.declared.types.Sender.{Sender}
+use Rattle.sender_steps.specs.Confirmation.{loweredOf}
+use Rattle.sender.specs.Confirmation.{timeoutOf}
+use Rattle.sender_steps.specs.declared.types.Sender.{Sender}
 use Rattle.sender.proofs.Views.{Settled, Retried, acked, naked, timed-out, timeout-4}
-use Rattle.receiver.specs.declared.types.Receiver.{Receiver}
-use Rattle.receiver.proofs.Held as receiver
+use Rattle.receiver_steps.specs.declared.types.Receiver.{Receiver}
+use Rattle.receiver_steps.proofs.Held as receiver
 use Rattle.link.specs.Ports.{Signal, Ports}
-use Rattle.link.specs.Tally.{Answer}
-use Rattle.link.specs.World.{World, Report, Event, noted, answers, step, run, Allowed}
+use Rattle.link.specs.Tally.{Confirmation}
+use Rattle.link.specs.World.{World, Report, Event, noted, confirms, step, run, Allowed}
 use Rattle.link.proofs.Setting.{Setting, place}
 use Rattle.link.proofs.Simulates.{Simulates}
 use Rattle.link.proofs.Invariant.{Standing, Live, Reported, Inv}
@@ -27,36 +28,25 @@ use Rattle.link.proofs.Delivery.{run-keeps}
 abbrev pub Fills : {P : Ports} → (P .Receiving → ℕ) → ℕ → World P → Type 0
 Fills {P} mark end start =
     (es : List (Event P)) → Allowed start es → run start es .report ≡ Report.none → (n : ℕ) →
-    (step (run start es) Event.answered .report ≡ Report.delivered n) ⊎ (step (run start es) Event.timeout .report ≡ Report.delivered n) → mark (run start es .receiving) ≡ end
+    (step (run start es) Event.confirmed .report ≡ Report.delivered n) ⊎ (step (run start es) Event.timeout .report ≡ Report.delivered n) → mark (run start es .receiving) ≡ end
 
--- a first report of delivery is the port's
-said-so : (a : Said) (n : ℕ) → noted a Report.none ≡ Report.delivered n → a ≡ Said.delivered n
-said-so (Said.delivered m) n e = cc
-said-so (Said.failed f m) n e = differ (cc)
-said-so (Said.refused m) n e = differ (cc)
-said-so (Said.frame m) n e = differ (cc)
-said-so Said.stored n e = differ (cc)
-said-so Said.received n e = differ (cc)
-said-so (Said.burst t) n e = differ (cc)
-said-so (Said.response start len o m) n e = differ (cc)
-said-so (Said.told v) n e = differ (cc)
+-- a first report, and it is of delivery
+abbrev Delivers : ℕ → Said → Type 0
+Delivers n a = noted a Report.none ≡ Report.delivered n
 
 none-told : {A : Type 0} (q : Report) → q ≡ Report.none → (n : ℕ) → q ≡ Report.delivered n → A
 none-told q e n f = differ (cc)
 
-refused-not : {A : Type 0} {m n : ℕ} → Said.refused m ≡ Said.delivered n → A
-refused-not e = differ (cc)
-
-retry-delivers-not : {A : Type 0} {s : Sender} {c : ℕ} {z : Left Sender} → Retried s c z → (n : ℕ) → z .says ≡ Said.delivered n → A
+retry-delivers-not : {A : Type 0} {s : Sender} {c : ℕ} {z : Left Sender} → Retried s c z → (n : ℕ) → Delivers n (z .says) → A
 retry-delivers-not (Retried.again h) n e = differ (cc)
 retry-delivers-not (Retried.spent h) n e = differ (cc)
 
 module _ {P : Ports} (S : Setting) (M : Simulates P (S .tptt)) (w : World P) (l : Live S M w) where
   open Live l using (s, r, c, k, m, j, R, ported, marked, linked, standing, silent)
 
-  module _ (rest : List Answer) (nak : Bool) (n : length (w .frames) + length rest + w .tally .lost ≡ s .unanswered - 1) (some : 0 < s .unanswered)
+  module _ (rest : List Confirmation) (nak : Bool) (n : length (w .frames) + length rest + w .tally .lost ≡ s .unanswered - 1) (some : 0 < s .unanswered)
       (st : Standing S rest nak (w .tally .lost) c k (r .waiting) (r .expected) (r .filled) R (w .tally .faults)) where
-    settled-fills : {z : Left Sender} → Settled (loweredOf s nak) z → (i : ℕ) → z .says ≡ Said.delivered i → r .filled ≡ S .end
+    settled-fills : {z : Left Sender} → Settled (loweredOf s nak) z → (i : ℕ) → Delivers i (z .says) → r .filled ≡ S .end
     settled-fills (Settled.more left) i e = differ (cc)
     settled-fills (Settled.retries z q v) i e = retry-delivers-not v i e
     settled-fills (Settled.moves z q u) i e = differ (cc)
@@ -67,29 +57,29 @@ module _ {P : Ports} (S : Setting) (M : Simulates P (S .tptt)) (w : World P) (l 
         let a = all-there S M w l rest nak n some st (w .sending) z q in
         omega arith
 
-  reaching-fills : (a : List Answer) → length (w .frames) + length a + w .tally .lost ≡ s .unanswered → Standing S a (s .nak) (w .tally .lost) c k (r .waiting) (r .expected) (r .filled) R (w .tally .faults) →
-      (i : ℕ) → answers w a .report ≡ Report.delivered i → r .filled ≡ S .end
+  reaching-fills : (a : List Confirmation) → length (w .frames) + length a + w .tally .lost ≡ s .unanswered → Standing S a (s .nak) (w .tally .lost) c k (r .waiting) (r .expected) (r .filled) R (w .tally .faults) →
+      (i : ℕ) → confirms w a .report ≡ Report.delivered i → r .filled ≡ S .end
   reaching-fills [] n g i e = none-told (w .report) silent i e
-  reaching-fills (Answer.ack ∷ rest) n g i e =
+  reaching-fills (Confirmation.ack ∷ rest) n g i e =
       let a = M .signals-as Signal.ack (w .sending) s (l .sends) (ported .s-holds) in
       settled-fills rest (s .nak) (omega arith) (omega arith) (ack-off S M w l g) (acked s (ported .s-holds) (ported .s-open) (λ z. omega arith)) i
-      (sym (a .1) ∙ said-so _ i (ap (noted (P .signal Signal.ack (w .sending) .says)) (sym silent) ∙ e))
-  reaching-fills (Answer.nak ∷ rest) n g i e =
+      (subst (Delivers i) (a .1) (ap (noted (P .signal Signal.ack (w .sending) .says)) (sym silent) ∙ e))
+  reaching-fills (Confirmation.nak ∷ rest) n g i e =
       let a = M .signals-as Signal.nak (w .sending) s (l .sends) (ported .s-holds) in
       settled-fills rest true (omega arith) (omega arith) (nak-off S M w l g) (naked s (ported .s-holds) (ported .s-open) (λ z. omega arith)) i
-      (sym (a .1) ∙ said-so _ i (ap (noted (P .signal Signal.nak (w .sending) .says)) (sym silent) ∙ e))
+      (subst (Delivers i) (a .1) (ap (noted (P .signal Signal.nak (w .sending) .says)) (sym silent) ∙ e))
 
-  answered-fills : (i : ℕ) → step w Event.answered .report ≡ Report.delivered i → r .filled ≡ S .end
-  answered-fills = reaching-fills (w .answers) (linked .conserved) standing
+  answered-fills : (i : ℕ) → step w Event.confirmed .report ≡ Report.delivered i → r .filled ≡ S .end
+  answered-fills = reaching-fills (w .confirmations) (linked .conserved) standing
 
   timeout-delivers-not : {A : Type 0} (i : ℕ) → step w Event.timeout .report ≡ Report.delivered i → A
-  timeout-delivers-not i e = go (ℕ-discrete (s .unanswered) 0) (sym (a .1) ∙ said-so _ i (ap (noted (P .signal Signal.timeout (w .sending) .says)) (sym silent) ∙ e))
+  timeout-delivers-not i e = go (ℕ-discrete (s .unanswered) 0) (subst (Delivers i) (a .1) (ap (noted (P .signal Signal.timeout (w .sending) .says)) (sym silent) ∙ e))
     where
       a : M .SendsAs (P .signal Signal.timeout (w .sending) .left) (timeoutOf s .left) × (P .signal Signal.timeout (w .sending) .says ≡ timeoutOf s .says)
       a = M .signals-as Signal.timeout (w .sending) s (l .sends) (ported .s-holds)
 
-      go : {A : Type 0} → Dec (s .unanswered ≡ 0) → timeoutOf s .says ≡ Said.delivered i → A
-      go (yes z) q = let f = ap (λ (x : Left Sender). x .says) (timeout-4 s (ported .s-holds) (ported .s-open) z) in refused-not (sym f ∙ q)
+      go : {A : Type 0} → Dec (s .unanswered ≡ 0) → Delivers i (timeoutOf s .says) → A
+      go (yes z) q = let f = ap (λ (x : Left Sender). x .says) (timeout-4 s (ported .s-holds) (ported .s-open) z) in none-told Report.none refl i (subst (Delivers i) f q)
       go (no n) q = retry-delivers-not (timed-out s (ported .s-holds) (ported .s-open) n) i q
 
 reported-not : {A : Type 0} {P : Ports} {S : Setting} {M : Simulates P (S .tptt)} {received : List ℕ} {handed : List (List ℕ)} {faults : ℕ} {q : Report} → Reported S M received handed faults q → q ≡ Report.none → A
@@ -101,7 +91,7 @@ module _ {P : Ports} (S : Setting) (M : Simulates P (S .tptt)) (mark : P .Receiv
   pub fills : Fills mark (S .end) start
   fills es a silent n = go (run-keeps S M start es i a)
     where
-      go : Inv S M (run start es) → (step (run start es) Event.answered .report ≡ Report.delivered n) ⊎ (step (run start es) Event.timeout .report ≡ Report.delivered n) → mark (run start es .receiving) ≡ S .end
+      go : Inv S M (run start es) → (step (run start es) Event.confirmed .report ≡ Report.delivered n) ⊎ (step (run start es) Event.timeout .report ≡ Report.delivered n) → mark (run start es .receiving) ≡ S .end
       go (inl l) (inl e) = reads _ (l .r) (l .ported .takes) ∙ answered-fills S M (run start es) l n e
       go (inl l) (inr e) = timeout-delivers-not S M (run start es) l n e
       go (inr d) e = reported-not (d .reported) silent

@@ -6,7 +6,7 @@ use mathlib.Core.Path.{_≡_, refl}
 use native.Mathlib.Omega.{arith}
 use native.Mathlib.Nat.{le-refl}
 use lib.ListN.{length}
-use Rattle.link.specs.Tally.{Answer}
+use Rattle.link.specs.Tally.{Confirmation}
 
 -- from (c, k), the first frame on the way or the next to be handed out, up to (d, j), the next to be handed out
 pub data Flight (f : Bool → ℕ → List ℕ) : Bool → ℕ → Bool → ℕ → List (List ℕ) → Type 0 where
@@ -23,30 +23,30 @@ module _ {f : Bool → ℕ → List ℕ} where
   ordered (first x) = let h = ordered x in omega arith
 
 -- every answer on the way is an ACK; some is a NAK
-abbrev pub AllAck : List Answer → Type 0
+abbrev pub AllAck : List Confirmation → Type 0
 AllAck [] = Unit {0}
-AllAck (Answer.ack ∷ rest) = AllAck rest
-AllAck (Answer.nak ∷ rest) = ⊥
+AllAck (Confirmation.ack ∷ rest) = AllAck rest
+AllAck (Confirmation.nak ∷ rest) = ⊥
 
-abbrev pub SomeNak : List Answer → Type 0
+abbrev pub SomeNak : List Confirmation → Type 0
 SomeNak [] = ⊥
-SomeNak (Answer.ack ∷ rest) = SomeNak rest
-SomeNak (Answer.nak ∷ rest) = Unit {0}
+SomeNak (Confirmation.ack ∷ rest) = SomeNak rest
+SomeNak (Confirmation.nak ∷ rest) = Unit {0}
 
-pub ack-joins : (l : List Answer) → AllAck l → AllAck (l ++ (Answer.ack ∷ []))
+pub ack-joins : (l : List Confirmation) → AllAck l → AllAck (l ++ (Confirmation.ack ∷ []))
 ack-joins [] h = tt
-ack-joins (Answer.ack ∷ l) h = ack-joins l h
-ack-joins (Answer.nak ∷ l) h = absurd h
+ack-joins (Confirmation.ack ∷ l) h = ack-joins l h
+ack-joins (Confirmation.nak ∷ l) h = absurd h
 
-pub nak-stays : (l : List Answer) (a : Answer) → SomeNak l → SomeNak (l ++ (a ∷ []))
+pub nak-stays : (l : List Confirmation) (a : Confirmation) → SomeNak l → SomeNak (l ++ (a ∷ []))
 nak-stays [] a h = absurd h
-nak-stays (Answer.ack ∷ l) a h = nak-stays l a h
-nak-stays (Answer.nak ∷ l) a h = tt
+nak-stays (Confirmation.ack ∷ l) a h = nak-stays l a h
+nak-stays (Confirmation.nak ∷ l) a h = tt
 
-pub nak-joins : (l : List Answer) → SomeNak (l ++ (Answer.nak ∷ []))
+pub nak-joins : (l : List Confirmation) → SomeNak (l ++ (Confirmation.nak ∷ []))
 nak-joins [] = tt
-nak-joins (Answer.ack ∷ l) = nak-joins l
-nak-joins (Answer.nak ∷ l) = tt
+nak-joins (Confirmation.ack ∷ l) = nak-joins l
+nak-joins (Confirmation.nak ∷ l) = tt
 
 module _ {f : Bool → ℕ → List ℕ} where
   -- the first frame, and the rest

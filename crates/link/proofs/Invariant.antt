@@ -6,12 +6,12 @@ use mathlib.Core.Bool.{Bool, true, false}
 use mathlib.Core.Logic.{_⊎_}
 use mathlib.Core.Path.{_≡_}
 use lib.ListN.{length, getD}
-use Rattle.sender.specs.Record.{holdsOf}
-use Rattle.sender.specs.declared.types.Sender.{Sender}
-use Rattle.receiver.specs.Record as receiver
-use Rattle.receiver.specs.declared.types.Receiver.{Receiver}
+use Rattle.sender_steps.specs.Record.{holdsOf}
+use Rattle.sender_steps.specs.declared.types.Sender.{Sender}
+use Rattle.receiver_steps.specs.Record as receiver
+use Rattle.receiver_steps.specs.declared.types.Receiver.{Receiver}
 use Rattle.link.specs.Ports.{Ports}
-use Rattle.link.specs.Tally.{Answer}
+use Rattle.link.specs.Tally.{Confirmation}
 use Rattle.link.specs.World.{World, Report}
 use Rattle.link.proofs.Setting.{Setting, Sends, Takes, place, within, enough, piece}
 use Rattle.link.proofs.Simulates.{Simulates}
@@ -34,7 +34,7 @@ module _ (S : Setting) where
     pub from-base : write ≡ true → m ≡ 0
 
   -- conservation: what is unanswered is on the way or lost; the frames on the way are those from k up to j
-  pub record Linked (frames : List (List ℕ)) (answers : List Answer) (unanswered lost owed : ℕ) (cdp c : Bool) (k m j : ℕ) : Type 0 where
+  pub record Linked (frames : List (List ℕ)) (answers : List Confirmation) (unanswered lost owed : ℕ) (cdp c : Bool) (k m j : ℕ) : Type 0 where
     pub flight : Flight (piece S) c k cdp j frames
     pub pointed : c ≡ true → k ≡ m
     pub from : m ≤ k
@@ -59,10 +59,10 @@ module _ (S : Setting) where
   abbrev pub InStep : Bool → ℕ → Bool → ℕ → ℕ → Type 0
   InStep c k waiting expected filled = (filled ≡ S .end) ⊎ ((c ≡ true) ⊎ ((waiting ≡ false) × (expected ≡ place S k)))
 
-  abbrev pub Dirty : List Answer → Bool → ℕ → Type 0
+  abbrev pub Dirty : List Confirmation → Bool → ℕ → Type 0
   Dirty answers nak lost = SomeNak answers ⊎ ((nak ≡ true) ⊎ (0 < lost))
 
-  pub data Standing (answers : List Answer) (nak : Bool) (lost : ℕ) (c : Bool) (k : ℕ) (waiting : Bool) (expected filled R faults : ℕ) : Type 0 where
+  pub data Standing (answers : List Confirmation) (nak : Bool) (lost : ℕ) (c : Bool) (k : ℕ) (waiting : Bool) (expected filled R faults : ℕ) : Type 0 where
     clean : AllAck answers → nak ≡ false → lost ≡ 0 → InStep c k waiting expected filled → Standing answers nak lost c k waiting expected filled R faults
     dirty : Dirty answers nak lost → R < faults → Standing answers nak lost c k waiting expected filled R faults
 
@@ -93,17 +93,17 @@ module _ (S : Setting) where
       pub stored : Stored (w .sent) (w .received) (r .filled)
       pub reached : place S m ≤ r .filled
       pub marked : Marked (s .transfer .write) (s .next) (s .balance) m j
-      pub linked : Linked (w .frames) (w .answers) (w .tally .unanswered) (w .tally .lost) (s .unanswered) (s .cdp) c k m j
+      pub linked : Linked (w .frames) (w .confirmations) (w .tally .unanswered) (w .tally .lost) (s .unanswered) (s .cdp) c k m j
       pub pending : Pending (s .nak) (s .cdp) (s .unanswered) (s .next) m j
       pub counted : Counted (s .frames) (s .retries) (w .handed) (w .tally .faults) R m j
-      pub standing : Standing (w .answers) (s .nak) (w .tally .lost) c k (r .waiting) (r .expected) (r .filled) R (w .tally .faults)
+      pub standing : Standing (w .confirmations) (s .nak) (w .tally .lost) c k (r .waiting) (r .expected) (r .filled) R (w .tally .faults)
       pub silent : w .report ≡ Report.none
 
     pub live : {w : World P} (s : Sender) (r : Receiver) (c : Bool) (k m j R : ℕ) → M .SendsAs (w .sending) s → Ported (w .receiving) s r →
         Stored (w .sent) (w .received) (r .filled) → place S m ≤ r .filled → Marked (s .transfer .write) (s .next) (s .balance) m j →
-        Linked (w .frames) (w .answers) (w .tally .unanswered) (w .tally .lost) (s .unanswered) (s .cdp) c k m j → Pending (s .nak) (s .cdp) (s .unanswered) (s .next) m j →
+        Linked (w .frames) (w .confirmations) (w .tally .unanswered) (w .tally .lost) (s .unanswered) (s .cdp) c k m j → Pending (s .nak) (s .cdp) (s .unanswered) (s .next) m j →
         Counted (s .frames) (s .retries) (w .handed) (w .tally .faults) R m j →
-        Standing (w .answers) (s .nak) (w .tally .lost) c k (r .waiting) (r .expected) (r .filled) R (w .tally .faults) → w .report ≡ Report.none → Live w
+        Standing (w .confirmations) (s .nak) (w .tally .lost) c k (r .waiting) (r .expected) (r .filled) R (w .tally .faults) → w .report ≡ Report.none → Live w
     live s r c k m j R h p st re ma li pe co sta si =
         record { s = s; r = r; c = c; k = k; m = m; j = j; R = R; sends = h; ported = p; stored = st; reached = re; marked = ma; linked = li; pending = pe; counted = co; standing = sta; silent = si }
 
@@ -120,7 +120,7 @@ module _ (S : Setting) where
       pub s-holds : holdsOf s ≡ true
       pub rests : (s .ended ≡ true) ⊎ ((s .ended ≡ false) × (s .unanswered ≡ 0) × (s .next ≡ s .burst .end))
       pub no-frames : w .frames ≡ []
-      pub no-answers : w .answers ≡ []
+      pub no-answers : w .confirmations ≡ []
       pub none-open : w .tally .unanswered ≡ 0
       pub source : w .sent ≡ S .source
       pub size : length (w .received) ≡ S .t .count
@@ -129,7 +129,7 @@ module _ (S : Setting) where
       pub reported : Reported (w .received) (w .handed) (w .tally .faults) (w .report)
 
     pub done : {w : World P} (s : Sender) → M .SendsAs (w .sending) s → Sends S s → holdsOf s ≡ true →
-        (s .ended ≡ true) ⊎ ((s .ended ≡ false) × (s .unanswered ≡ 0) × (s .next ≡ s .burst .end)) → w .frames ≡ [] → w .answers ≡ [] → w .tally .unanswered ≡ 0 → w .sent ≡ S .source →
+        (s .ended ≡ true) ⊎ ((s .ended ≡ false) × (s .unanswered ≡ 0) × (s .next ≡ s .burst .end)) → w .frames ≡ [] → w .confirmations ≡ [] → w .tally .unanswered ≡ 0 → w .sent ≡ S .source →
         length (w .received) ≡ S .t .count → ((i : ℕ) → (i < S .base) ⊎ (S .end ≤ i) → getD (w .received) i 0 ≡ getD (S .before) i 0) →
         length (w .handed) ≤ enough S * (1 + w .tally .faults) → Reported (w .received) (w .handed) (w .tally .faults) (w .report) → Done w
     done s h f sh re nf na op so si rs bo rp =

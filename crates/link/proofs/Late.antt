@@ -6,16 +6,18 @@ use mathlib.Core.Logic.{_⊎_, inl, inr, ⊎-elim}
 use mathlib.Core.Path.{_≡_, refl, sym, ap, subst, _∙_}
 use lib.ListN.{length, getD}
 use Rattle.status.specs.Pick.{_with_}
-use Rattle.status.specs.Answer.{Said, Left, _saying_}
+use Rattle.status.specs.Answer.{Said, view, Left, _saying_}
 use Rattle.status.proofs.Opened.{differ, open-entry}
-use Rattle.sender.specs.Record.{holdsOf}
-use Rattle.sender.specs.Answer.{endedOf, failedOf, lossOf}
-use Rattle.sender.specs.declared.types.Sender.{Sender}
-use Rattle.sender.proofs.Held.{held}
+use Rattle.sender_steps.specs.Record.{holdsOf}
+use Rattle.sender_steps.specs.Confirmation.{endedOf, failedOf}
+use Rattle.sender.specs.Confirmation.{lossOf}
+use Rattle.sender_steps.specs.declared.types.Sender.{Sender}
+use Rattle.sender_steps.proofs.Held.{held}
 use Rattle.sender.proofs.Kept.{ended-holds}
 use Rattle.sender.proofs.Ended.{loss-ended}
-use Rattle.link.specs.Ports.{Called, Signal, Ports, signalled}
-use Rattle.link.specs.World.{World, Report, Call, first, noted, called, sending≔, receiving≔, Late}
+use Rattle.link.specs.Ports.{Called, Signal, Ports}
+use Rattle.link.specs.Calls.{signalled}
+use Rattle.link.specs.World.{World, Report, Call, first, next, noted, called, sending≔, receiving≔, Late}
 use Rattle.link.proofs.Setting.{Setting}
 use Rattle.link.proofs.Simulates.{Simulates}
 use Rattle.link.proofs.Invariant.{Done, Reported, Inv, done}
@@ -29,18 +31,15 @@ module _ {P : Ports} (S : Setting) (M : Simulates P (S .tptt)) (w : World P) (d 
   first-stays (Reported.fails f lo hi p) new = refl
 
   stays : {q : Report} → Reported S M (w .received) (w .handed) (w .tally .faults) q → (a : Said) → noted a q ≡ q
-  stays r (Said.refused n) = refl
-  stays r (Said.failed n k) = first-stays r (Report.failed n k)
-  stays r (Said.frame n) = refl
-  stays r (Said.delivered n) = first-stays r (Report.delivered n)
-  stays r Said.stored = refl
-  stays r Said.received = refl
-  stays r (Said.burst t) = refl
-  stays r (Said.response start len o n) = refl
-  stays r (Said.told v) = refl
+  stays {q} r a = go (view a .report)
+    where
+      go : (new : Report) → next new q ≡ q
+      go Report.none = refl
+      go (Report.delivered n) = first-stays r (Report.delivered n)
+      go (Report.failed f n) = first-stays r (Report.failed f n)
 
   -- another state of the sending port that stands for s, or for s ended
-  sending-moves : (y : P .Sending) (a : Said) → M .SendsAs y s ⊎ M .SendsAs y (endedOf s) → Inv S M (record { sending = y; receiving = w .receiving; sent = w .sent; received = w .received; frames = w .frames; answers = w .answers; tally = w .tally; handed = w .handed; report = noted a (w .report) })
+  sending-moves : (y : P .Sending) (a : Said) → M .SendsAs y s ⊎ M .SendsAs y (endedOf s) → Inv S M (record { sending = y; receiving = w .receiving; sent = w .sent; received = w .received; frames = w .frames; confirmations = w .confirmations; tally = w .tally; handed = w .handed; report = noted a (w .report) })
   sending-moves y a (inl h) =
       rw (stays reported a)
       (inr
@@ -50,9 +49,9 @@ module _ {P : Ports} (S : Setting) (M : Simulates P (S .tptt)) (w : World P) (d 
       (inr
       (done S M (endedOf s) h send-for (ended-holds s (held s s-holds)) (inl refl) no-frames no-answers none-open source size rest bounded reported))
 
-  receiving-moves : (y : P .Receiving) (b : List ℕ) → b ≡ w .received → Inv S M (record { sending = w .sending; receiving = y; sent = w .sent; received = b; frames = w .frames; answers = w .answers; tally = w .tally; handed = w .handed; report = w .report })
+  receiving-moves : (y : P .Receiving) (b : List ℕ) → b ≡ w .received → Inv S M (record { sending = w .sending; receiving = y; sent = w .sent; received = b; frames = w .frames; confirmations = w .confirmations; tally = w .tally; handed = w .handed; report = w .report })
   receiving-moves y b e =
-      subst (λ (v : List ℕ). Inv S M (record { sending = w .sending; receiving = y; sent = w .sent; received = v; frames = w .frames; answers = w .answers; tally = w .tally; handed = w .handed; report = w .report })) (sym e)
+      subst (λ (v : List ℕ). Inv S M (record { sending = w .sending; receiving = y; sent = w .sent; received = v; frames = w .frames; confirmations = w .confirmations; tally = w .tally; handed = w .handed; report = w .report })) (sym e)
       (inr
       (done S M s sends send-for s-holds rests no-frames no-answers none-open source size rest bounded reported))
 

@@ -22,9 +22,5 @@ pub mod Theorem
 pub mod TakenAlike
 pub mod Resent
 pub mod TakenAgain
-pub mod Worked
-pub mod WorkedFaults
-pub mod WorkedWrite
-pub mod WorkedCrossing
-pub mod WorkedRepeat
-pub mod WorkedResponse
+pub mod EndedRefuses
+pub mod OneFault

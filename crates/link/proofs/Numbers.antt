@@ -6,9 +6,9 @@ use mathlib.Core.Path.{_≡_, refl, sym}
 use native.Mathlib.Nat.{mul-le-mul, mul-le-mul-left, mul-le-mul-right, mul-comm, suc-mul, mul-suc, add-mul, one-mul}
 use native.Mathlib.Omega.{arith}
 use lib.ListN.{length}
-use Rattle.sender.specs.Record.{holdsOf}
-use Rattle.sender.specs.declared.types.Sender.{Sender}
-use Rattle.sender.proofs.Held.{held}
+use Rattle.sender_steps.specs.Record.{holdsOf}
+use Rattle.sender_steps.specs.declared.types.Sender.{Sender}
+use Rattle.sender_steps.proofs.Held.{held}
 use Rattle.link.proofs.Grid.{inside-needed, needed-most}
 use Rattle.link.proofs.Setting.{Setting, Sends, within, enough, limits, sized}
 use Rattle.link.proofs.Invariant.{Counted}

@@ -1,10 +1,11 @@
 -- What holds of the calls between the link's events: one that is refused or changes nothing leaves the world as it is.
 use Prim.Native.Nat.{ℕ}
 use mathlib.Core.List.{List, []}
-use mathlib.Core.Bool.{true, false, false≢true}
+use mathlib.Core.Bool.{true}
 use mathlib.Core.Logic.{_⊎_, inl, inr}
 use mathlib.Core.Path.{_≡_, refl, sym, ap, _∙_}
 use Rattle.status.specs.Answer.{Said, Left, refuses}
+use Rattle.status.proofs.Leaves.{refusing}
 use Rattle.link.specs.Ports.{Called, lending, Signal, Ports}
 use Rattle.link.specs.World.{World, Report, Call, noted, sends, receives, called, receiving≔, Harmless, Idle}
 use Rattle.status.specs.Pick.{_with_}
@@ -18,22 +19,14 @@ pub record Steady (P : Ports) : Type 0 where
 
 -- a refusal is no report
 refused-quiet : (a : Said) (q : Report) → refuses a ≡ true → noted a q ≡ q
-refused-quiet (Said.refused n) q e = refl
-refused-quiet (Said.failed n k) q e = absurd (false≢true e)
-refused-quiet (Said.frame n) q e = refl
-refused-quiet (Said.delivered n) q e = absurd (false≢true e)
-refused-quiet Said.stored q e = refl
-refused-quiet Said.received q e = refl
-refused-quiet (Said.burst t) q e = refl
-refused-quiet (Said.response start len o n) q e = refl
-refused-quiet (Said.told v) q e = refl
+refused-quiet a q = refusing (λ (b : Said). noted b q ≡ q) (λ n. refl) a
 
 module _ {P : Ports} (T : Steady P) (w : World P) where
   sends-same : (x : Left (P .Sending)) → x .left ≡ w .sending → noted (x .says) (w .report) ≡ w .report → sends w x ≡ w
-  sends-same x e q i = record { sending = e i; receiving = w .receiving; sent = w .sent; received = w .received; frames = w .frames; answers = w .answers; tally = w .tally; handed = w .handed; report = q i }
+  sends-same x e q i = record { sending = e i; receiving = w .receiving; sent = w .sent; received = w .received; frames = w .frames; confirmations = w .confirmations; tally = w .tally; handed = w .handed; report = q i }
 
   receives-same : (x : Called (P .Receiving)) → x .left ≡ w .receiving → x .lent ≡ w .received → receives w x ≡ w
-  receives-same x e q i = record { sending = w .sending; receiving = e i; sent = w .sent; received = q i; frames = w .frames; answers = w .answers; tally = w .tally; handed = w .handed; report = w .report }
+  receives-same x e q i = record { sending = w .sending; receiving = e i; sent = w .sent; received = q i; frames = w .frames; confirmations = w .confirmations; tally = w .tally; handed = w .handed; report = w .report }
 
   harmless-send : (b : List ℕ) (x : Called (P .Sending)) → (refuses (x .says) ≡ true → x .left ≡ w .sending) → Harmless (w .sending) b (w .report) x → sends w (record { left = x .left; says = x .says }) ≡ w
   harmless-send b x f (inl e) = sends-same (record { left = x .left; says = x .says }) (f e) (refused-quiet (x .says) (w .report) e)

@@ -14,27 +14,32 @@ use Rattle.frame.specs.Read.{headerIn, iuOf}
 use Rattle.frame.specs.Write.{writable, handing}
 use Rattle.frame.specs.declared.types.Header.{Header}
 use Rattle.arrival.proofs.Passed.{written-stands}
-use Rattle.sender.specs.Record.{holdsOf}
-use Rattle.sender.specs.Transmit.{frameOf, nextOf}
-use Rattle.sender.specs.Transmit as transmit
-use Rattle.sender.specs.Answer.{endedOf, lossOf}
-use Rattle.sender.specs.declared.types.Sender.{Sender}
-use Rattle.sender.proofs.Held.{held, lent-holds}
+use Rattle.sender_steps.specs.Record.{holdsOf}
+use Rattle.sender_steps.specs.Transmit.{frameOf}
+use Rattle.sender.specs.Transmit.{nextOf}
+use Rattle.sender_steps.specs.Record as transmit
+use Rattle.sender_steps.specs.Confirmation.{endedOf}
+use Rattle.sender.specs.Confirmation.{lossOf}
+use Rattle.sender_steps.specs.declared.types.Sender.{Sender}
+use Rattle.sender_steps.proofs.Held.{held, lent-holds}
 use Rattle.sender.proofs.Shape.{next-shape}
 use Rattle.sender.proofs.Ended as sender
-use Rattle.receiver.specs.DataFrame.{lentOf, arrivalOf, storing}
+use Rattle.receiver_steps.specs.Record.{lentOf}
+use Rattle.receiver_steps.specs.DataFrame.{storing}
+use Rattle.receiver.specs.DataFrame.{arrivalOf}
 use Rattle.receiver.specs.Record as receiver-record
-use Rattle.receiver.specs.declared.types.Receiver.{Receiver}
+use Rattle.receiver_steps.specs.declared.types.Receiver.{Receiver}
 use Rattle.receiver.proofs.Views as receiver
 use Rattle.receiver.proofs.Kept.{arrival-same}
-use Rattle.receiver.proofs.Buffer.{storing-none}
+use Rattle.receiver_steps.proofs.Buffer.{storing-none}
 use Rattle.initiator.specs.Read.{readArrivalOf, readLossOf}
 use Rattle.initiator.proofs.ReadViews.{data-arrives, read-arrival-leaves, read-loss-leaves, response-stores-nothing}
 use Rattle.target.specs.ReadSend.{onlyRead, readNextOf}
 use Rattle.target.proofs.Ended.{read-refuses}
 use Rattle.target.proofs.ReadSteps.{only-read}
-use Rattle.link.specs.Ports.{Signal, signalled}
-use Rattle.link.specs.Reading.{readSignalled, SenderCall, senderCall, SenderLate, ReaderCall, readerCall, ReaderLate, readPorts}
+use Rattle.link.specs.Ports.{Signal}
+use Rattle.link.specs.Calls.{signalled, readSignalled, SenderCall, senderCall, ReaderCall, readerCall}
+use Rattle.link.specs.Reading.{SenderLate, ReaderLate, readPorts}
 use Rattle.link.proofs.Others.{Steady}
 use Rattle.link.proofs.Simulates.{Addressed, Simulates, signal-shape}
 
@@ -53,7 +58,7 @@ module _ (r : Receiver) (v : r .transfer .write ≡ false) (h : Header) (iu b : 
   core = arrivalOf r (h .offset) (h .flags .cdp) (length iu) (length b)
 
   arrives : readArrivalOf r (encode h iu) (length b) ≡ core
-  arrives = data-arrives r h iu (length b) l v o (a .kind) (a .dest) (a .source) (a .tag) (a .range) c
+  arrives = data-arrives r h iu (length b) l v o (a .frametype) (a .dest) (a .source) (a .tag) (a .range) c
 
   lands : storing (readArrivalOf r (encode h iu) (length b) .says) (headerIn (encode h iu) .offset) (iuOf (encode h iu)) b ≡ storing (core .says) (h .offset) iu b
   lands =

@@ -21,20 +21,21 @@ use Rattle.frame.specs.declared.types.Header.{Header}
 use Rattle.frame.proofs.Bits.{flags-back}
 use Rattle.frame.proofs.RoundTrip.{iu-back}
 use Rattle.frame.proofs.Writer.{encode-length}
-use Rattle.receiver.specs.DataFrame.{lentOf, arrivalOf}
-use Rattle.receiver.specs.declared.types.Receiver.{Receiver}
+use Rattle.receiver_steps.specs.Record.{lentOf}
+use Rattle.receiver.specs.DataFrame.{arrivalOf}
+use Rattle.receiver_steps.specs.declared.types.Receiver.{Receiver}
 use Rattle.receiver.proofs.Views as receiver
 use Rattle.transfer.specs.declared.Transfer.{Transfer}
 use Rattle.target.specs.Fields.{tptt≔}
 use Rattle.target.specs.Record.{UNANSWERED, AGAIN, holdsOf}
-use Rattle.target.specs.Answer.{answersOf, retryOf}
+use Rattle.target.specs.Confirmation.{confirmsOf, retryOf}
 use Rattle.target.specs.Transmit.{dueOf, issuedOf, xferRdyHeader, xferRdyIu, frameOf, nextOf}
 use Rattle.target.specs.Arrival as taking
 use Rattle.target.specs.declared.types.Target.{Target}
 use Rattle.target.proofs.Again as target
 use Rattle.target.proofs.Views.{Came, came}
 use Rattle.link.specs.Ports.{Signal, frameIn}
-use Rattle.link.specs.Writing.{TargetCall, targetCall}
+use Rattle.link.specs.Calls.{TargetCall, targetCall}
 use Rattle.link.specs.Resent.{again, Again, xferRdysOf, Repeats, InTurn, HandedOutAgain}
 use Rattle.link.proofs.Asking.{over-front}
 
@@ -47,7 +48,7 @@ module _ (h : Header) (n : ℕ) (iu : List ℕ) (small : h .flags .tlr < 4) wher
   unfolding headerIn encode headerBytes
   again-back i =
       record {
-        kind = h .kind;
+        frametype = h .frametype;
         dest = headerIn (encode h iu) .dest;
         source = headerIn (encode h iu) .source;
         flags = (flags-back (marked (h .flags)) small ∙ sym (ap marked (flags-back (h .flags) small))) i;
@@ -61,7 +62,7 @@ abbrev sent : Transfer → ℕ → Bool → ℕ → ℕ → List ℕ
 sent t tptt resent base end =
     encode
     (record {
-      kind = XFER-RDY;
+      frametype = XFER-RDY;
       dest = t .remote;
       source = t .local;
       flags = record { tlr = 0; retry = ltb 0 (t .limit); retransmit = resent; cdp = false };
@@ -139,8 +140,8 @@ module _ (y : Target) where
   unfolding retryOf
   retry-quiet cause = picked Quiet (ltb (y .retries) (y .receiver .transfer .limit)) _ _ (λ b. refl) (λ b. refl)
 
-  answer-quiet : (x : Left Target) → Quiet x → Quiet (unless (answersOf y) y x)
-  answer-quiet x q = unless-gives Quiet (answersOf y) y x (λ n b. refl) q
+  answer-quiet : (x : Left Target) → Quiet x → Quiet (unless (confirmsOf y) y x)
+  answer-quiet x q = unless-gives Quiet (confirmsOf y) y x (λ n b. refl) q
 
   event-quiet : (x : Left Target) → Quiet x → Quiet (unless (entryOf (holdsOf y) (y .receiver .ended)) y x)
   event-quiet x q = unless-gives Quiet (entryOf (holdsOf y) (y .receiver .ended)) y x (λ n b. refl) q

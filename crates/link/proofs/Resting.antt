@@ -10,14 +10,17 @@ use lib.ListN.{length}
 use Rattle.transfer.specs.declared.Transfer.{Transfer}
 use Rattle.status.specs.Answer.{Said, Left}
 use Rattle.frame.specs.Write.{handing}
-use Rattle.sender.specs.Transmit.{lentOf, frameOf, nextOf}
-use Rattle.sender.specs.declared.types.Sender.{Sender}
-use Rattle.sender.proofs.Held.{lent-again}
+use Rattle.sender_steps.specs.Record.{lentOf}
+use Rattle.sender_steps.specs.Transmit.{frameOf}
+use Rattle.sender.specs.Transmit.{nextOf}
+use Rattle.sender_steps.specs.declared.types.Sender.{Sender}
+use Rattle.sender_steps.proofs.Held.{lent-again}
 use Rattle.sender.proofs.Views.{Asked, asked, timeout-4, cut-0}
 use Rattle.sender.proofs.Ended.{next-ended, timeout-ended, cut-ended}
-use Rattle.link.specs.Ports.{Called, Signal, Ports, signalled}
-use Rattle.link.specs.Tally.{Answer, cutFault, timeoutFault}
-use Rattle.link.specs.World.{World, Report, Event, noted, asks, arrivesWhole, arrivesDamaged, losesFrame, answers, losesAnswer, closes, step}
+use Rattle.link.specs.Ports.{Called, Signal, Ports}
+use Rattle.link.specs.Calls.{signalled}
+use Rattle.link.specs.Tally.{Confirmation, cutFault, timeoutFault}
+use Rattle.link.specs.World.{World, Report, Event, noted, asks, arrivesWhole, arrivesDamaged, losesFrame, confirms, losesConfirmation, closes, step}
 use Rattle.link.proofs.Setting.{Setting, enough}
 use Rattle.link.proofs.Simulates.{Simulates}
 use Rattle.link.proofs.Invariant.{Done, Reported, Inv, done}
@@ -39,7 +42,7 @@ module _ {P : Ports} (S : Setting) (M : Simulates P (S .tptt)) (w : World P) (d 
       more (Reported.fails f lo hi p) = Reported.fails f lo hi (omega arith)
 
   -- a call on the sending port that leaves its record and reports nothing new
-  same : (y : P .Sending) → M .SendsAs y s → Inv S M (record { sending = y; receiving = w .receiving; sent = w .sent; received = w .received; frames = w .frames; answers = w .answers; tally = record { unanswered = w .tally .unanswered; lost = w .tally .lost; faults = w .tally .faults }; handed = w .handed; report = w .report })
+  same : (y : P .Sending) → M .SendsAs y s → Inv S M (record { sending = y; receiving = w .receiving; sent = w .sent; received = w .received; frames = w .frames; confirmations = w .confirmations; tally = record { unanswered = w .tally .unanswered; lost = w .tally .lost; faults = w .tally .faults }; handed = w .handed; report = w .report })
   same y h =
       inr
       (done S M s h send-for s-holds rests no-frames no-answers none-open source size rest bounded reported)
@@ -92,7 +95,7 @@ module _ {P : Ports} (S : Setting) (M : Simulates P (S .tptt)) (w : World P) (d 
   no-frame : (E : List (List ℕ) → World P) → E [] ≡ w → Inv S M (E (w .frames))
   no-frame E e = rw no-frames (subst (Inv S M) (sym e) (inr d))
 
-  no-answer : (E : List Answer → World P) → E [] ≡ w → Inv S M (E (w .answers))
+  no-answer : (E : List Confirmation → World P) → E [] ≡ w → Inv S M (E (w .confirmations))
   no-answer E e = rw no-answers (subst (Inv S M) (sym e) (inr d))
 
   pub arriving : Inv S M (step w Event.arrives)
@@ -104,8 +107,8 @@ module _ {P : Ports} (S : Setting) (M : Simulates P (S .tptt)) (w : World P) (d 
   pub losing : Inv S M (step w Event.frame-lost)
   losing = no-frame (losesFrame w) refl
 
-  pub answering : Inv S M (step w Event.answered)
-  answering = no-answer (answers w) refl
+  pub answering : Inv S M (step w Event.confirmed)
+  answering = no-answer (confirms w) refl
 
-  pub missing-answer : Inv S M (step w Event.answer-lost)
-  missing-answer = no-answer (losesAnswer w) refl
+  pub missing-answer : Inv S M (step w Event.confirmation-lost)
+  missing-answer = no-answer (losesConfirmation w) refl

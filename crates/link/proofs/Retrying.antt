@@ -8,14 +8,14 @@ use native.Mathlib.Nat.{suc-mul, mul-le-mul-left}
 use native.Mathlib.Omega.{arith}
 use lib.ListN.{length}
 use Rattle.status.specs.Pick.{pick}
-use Rattle.sender.specs.Record.{holdsOf}
-use Rattle.sender.specs.Answer.{restartOf, retriedOf, endedOf}
-use Rattle.sender.specs.declared.types.Sender.{Sender}
-use Rattle.sender.proofs.Held.{held}
+use Rattle.sender_steps.specs.Record.{holdsOf}
+use Rattle.sender_steps.specs.Confirmation.{restartOf, retriedOf, endedOf}
+use Rattle.sender_steps.specs.declared.types.Sender.{Sender}
+use Rattle.sender_steps.proofs.Held.{held}
 use Rattle.sender.proofs.Kept.{retried-holds, ended-holds}
 use Rattle.sender.proofs.Views.{Retried}
-use Rattle.receiver.specs.declared.types.Receiver.{Receiver}
-use Rattle.receiver.proofs.Held as receiver
+use Rattle.receiver_steps.specs.declared.types.Receiver.{Receiver}
+use Rattle.receiver_steps.proofs.Held as receiver
 use Rattle.status.specs.Answer.{Said, Left}
 use Rattle.link.specs.Ports.{Ports}
 use Rattle.link.specs.World.{World, Report, noted}
@@ -44,7 +44,7 @@ emptied w y faults q =
       sent = w .sent;
       received = w .received;
       frames = [];
-      answers = [];
+      confirmations = [];
       tally = record { unanswered = 0; lost = 0; faults = faults };
       handed = w .handed;
       report = q;

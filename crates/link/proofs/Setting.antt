@@ -14,10 +14,10 @@ use Rattle.frame.specs.Write.{writable}
 use Rattle.frame.specs.RoundTrip.{InRange}
 use Rattle.frame.specs.declared.types.Header.{Header}
 use Rattle.status.specs.Pick.{pick}
-use Rattle.sender.specs.Transmit.{frameOf, dataHeader, lesser, partOf}
-use Rattle.sender.specs.declared.types.Burst.{Burst}
-use Rattle.sender.specs.declared.types.Sender.{Sender}
-use Rattle.receiver.specs.declared.types.Receiver.{Receiver}
+use Rattle.sender_steps.specs.Transmit.{frameOf, dataHeader, lesser, partOf}
+use Rattle.sender_steps.specs.declared.types.Burst.{Burst}
+use Rattle.sender_steps.specs.declared.types.Sender.{Sender}
+use Rattle.receiver_steps.specs.declared.types.Receiver.{Receiver}
 use Rattle.link.proofs.Grid.{Inside, at, room, at-below, at-most, room-fits, needed}
 
 pub record Setting : Type 0 where
@@ -90,7 +90,7 @@ module _ (S : Setting) where
   abbrev pub header : Bool → ℕ → Header
   header c i =
       record {
-        kind = DATA;
+        frametype = DATA;
         dest = S .t .remote;
         source = S .t .local;
         flags = record { tlr = 0; retry = false; retransmit = false; cdp = c };
@@ -122,7 +122,7 @@ module _ (S : Setting) where
   frame-is s j c e i =
       encode
       (record {
-        kind = DATA;
+        frametype = DATA;
         dest = c .transfer i .remote;
         source = c .transfer i .local;
         flags = record { tlr = 0; retry = false; retransmit = false; cdp = s .cdp };

@@ -9,21 +9,24 @@ use Rattle.frame.specs.Format.{DATA, encode}
 use Rattle.frame.specs.Write.{writable, handing}
 use Rattle.frame.specs.RoundTrip.{InRange}
 use Rattle.frame.specs.declared.types.Header.{Header}
-use Rattle.sender.specs.Record.{holdsOf}
-use Rattle.sender.specs.Transmit.{lentOf, frameOf, nextOf}
-use Rattle.sender.specs.Answer.{endedOf}
-use Rattle.sender.specs.declared.types.Sender.{Sender}
-use Rattle.sender.proofs.Held.{Held}
+use Rattle.sender_steps.specs.Record.{holdsOf, lentOf}
+use Rattle.sender_steps.specs.Transmit.{frameOf}
+use Rattle.sender.specs.Transmit.{nextOf}
+use Rattle.sender_steps.specs.Confirmation.{endedOf}
+use Rattle.sender_steps.specs.declared.types.Sender.{Sender}
+use Rattle.sender_steps.proofs.Held.{Held}
 use Rattle.sender.proofs.Shape.{Shape, ack-shape, nak-shape, timeout-shape, cut-shape, loss-shape}
-use Rattle.receiver.specs.DataFrame.{arrivalOf, storing}
-use Rattle.receiver.specs.DataFrame as receiver
-use Rattle.receiver.specs.declared.types.Receiver.{Receiver}
-use Rattle.link.specs.Ports.{Signal, Ports, signalled}
+use Rattle.receiver_steps.specs.DataFrame.{storing}
+use Rattle.receiver.specs.DataFrame.{arrivalOf}
+use Rattle.receiver_steps.specs.Record as receiver
+use Rattle.receiver_steps.specs.declared.types.Receiver.{Receiver}
+use Rattle.link.specs.Ports.{Signal, Ports}
+use Rattle.link.specs.Calls.{signalled}
 use Rattle.link.proofs.Others.{Steady}
 
 -- a DATA frame for the receiving record r
 pub record Addressed (τ : ℕ) (h : Header) (r : Receiver) : Type 0 where
-  pub kind : h .kind ≡ DATA
+  pub frametype : h .frametype ≡ DATA
   pub dest : h .dest ≡ r .transfer .local
   pub source : h .source ≡ r .transfer .remote
   pub tag : h .tag ≡ r .transfer .tag

@@ -11,7 +11,7 @@ use borrow.Author.Tests.{ltb-false}
 use Rattle.status.specs.Pick.{pick, all}
 use Rattle.status.specs.Entry.{entryOf}
 use Rattle.status.specs.Answer.{Left, unless}
-use Rattle.status.specs.Outcome.{Outcome}
+use Rattle.status.specs.Result.{Result}
 use Rattle.status.specs.declared.entry.Entry.{Entry}
 use Rattle.status.specs.declared.entry.Entry.the-variants.{Open, Closed}
 use Rattle.status.proofs.Opened.{differ}
@@ -20,25 +20,26 @@ use Rattle.frame.specs.Read.{fillCount, headerIn, wellFormed, iuLength, iuOf}
 use Rattle.frame.specs.XferRdy.{xferRdyOf}
 use Rattle.frame.specs.declared.types.Header.{Header}
 use Rattle.frame.specs.declared.types.XferRdy.{XferRdy}
-use Rattle.arrival.specs.Accept.{kindOf, acceptOf}
+use Rattle.arrival.specs.Accept.{classOf, acceptOf}
 use Rattle.arrival.specs.declared.Role.the-variants.{WriteInitiator}
 use Rattle.arrival.proofs.Passed.{arrivedIn, same-passes}
-use Rattle.sender.specs.declared.types.Burst.{Burst}
+use Rattle.sender_steps.specs.declared.types.Burst.{Burst}
 use Rattle.initiator.specs.WriteRecord.{holdsOf}
 use Rattle.initiator.specs.WriteCount.{takes}
 use Rattle.initiator.specs.WriteTake.{previous, burstTaken, writeArrivalOf}
 use Rattle.initiator.specs.declared.types.Writer.{Writer}
 use Rattle.initiator.proofs.WriteRepeat.{Keeps, ack-keeps, nak-keeps, timeout-keeps, cut-keeps, loss-keeps, next-keeps, arrival-keeps, Took, took, repeat-taken}
 use Rattle.link.specs.Ports.{Signal}
-use Rattle.link.specs.Resent.{again, Again, Repeats, InTurn, WriterCall, writerCall, after, Brings, TakesOnly, TakenAsRepeat, RepeatsItsBurst, TakenAgain, Each, ResentTaken}
+use Rattle.link.specs.Resent.{again, Again, Repeats, InTurn, after, Brings, TakesOnly, TakenAsRepeat, RepeatsItsBurst, TakenAgain, Each, ResentTaken}
+use Rattle.link.specs.Calls.{WriterCall, writerCall}
 use Rattle.link.proofs.Resent.{handed-out-again}
 
 -- an XFER_RDY's IU that is read has 12 bytes
-twelve : (iu : List ℕ) (x : XferRdy) → xferRdyOf iu ≡ Outcome.value x → length iu ≡ 12
+twelve : (iu : List ℕ) (x : XferRdy) → xferRdyOf iu ≡ Result.value x → length iu ≡ 12
 unfolding xferRdyOf pick
 twelve iu x e = go (ltb (length iu) 12) (ltb 12 (length iu)) _ refl refl e
   where
-    go : (t u : Bool) (y : Outcome XferRdy) → ltb (length iu) 12 ≡ t → ltb 12 (length iu) ≡ u → pick t (Outcome.number 23) (pick u (Outcome.number 24) y) ≡ Outcome.value x → length iu ≡ 12
+    go : (t u : Bool) (y : Result XferRdy) → ltb (length iu) 12 ≡ t → ltb 12 (length iu) ≡ u → pick t (Result.number 23) (pick u (Result.number 24) y) ≡ Result.value x → length iu ≡ 12
     go false false y p q e = omega (arith, ltb-false (length iu) 12 p, ltb-false 12 (length iu) q)
     go false true y p q e = differ (cc)
     go true u y p q e = differ (cc)
@@ -76,12 +77,12 @@ module _ (w : Writer) (f : List ℕ) (t : takes (writeArrivalOf w f .says) ≡ t
     form : wellFormed g ≡ wellFormed f
     form i = all (leb 24 (a .size i) ∷ leb (a .size i) 1_048 ∷ eqb (a .size i % 4) 0 ∷ leb (fill i) (a .size i - 24) ∷ [])
 
-    passes : acceptOf WriteInitiator (w .sender .transfer) g ≡ Outcome.value (arrivedIn WriteInitiator g)
+    passes : acceptOf WriteInitiator (w .sender .transfer) g ≡ Result.value (arrivedIn WriteInitiator g)
     passes =
-        same-passes (w .sender .transfer) WriteInitiator f g _ form (ap (λ (h : Header). h .kind) (a .header)) (ap (λ (h : Header). h .dest) (a .header)) (ap (λ (h : Header). h .source) (a .header))
+        same-passes (w .sender .transfer) WriteInitiator f g _ form (ap (λ (h : Header). h .frametype) (a .header)) (ap (λ (h : Header). h .dest) (a .header)) (ap (λ (h : Header). h .source) (a .header))
         (ap (λ (h : Header). h .tag) (a .header)) (first .accepted)
 
-    reads : xferRdyOf (iuOf g) ≡ Outcome.value asked
+    reads : xferRdyOf (iuOf g) ≡ Result.value asked
     reads = ap xferRdyOf (a .iu) ∙ first .reads
 
     arrives : (v : Writer) → Standing v → TakenAsRepeat v g
@@ -91,7 +92,7 @@ module _ (w : Writer) (f : List ℕ) (t : takes (writeArrivalOf w f .says) ≡ t
         let c = ap (λ (u : Transfer). u .count) (s .transfer) in
         ap (λ (z : Left Writer). z .says)
         (repeat-taken v asked (s .base) (s .end) (i .some) (omega (arith, c, i .most)) g (ap (λ (u : Transfer). acceptOf WriteInitiator u g) (s .transfer) ∙ passes)
-        (ap (λ (h : Header). kindOf WriteInitiator (h .kind)) (a .header) ∙ first .kind) (ap (λ (h : Header). h .flags .retransmit) (a .header)) reads)
+        (ap (λ (h : Header). classOf WriteInitiator (h .frametype)) (a .header) ∙ first .class) (ap (λ (h : Header). h .flags .retransmit) (a .header)) reads)
         ∙ go (entryOf (holdsOf v) (v .sender .ended)) v _ _ refl
       where
         go : (e : Entry) (v : Writer) (y z : Left Writer) → y .says ≡ z .says → unless e v y .says ≡ unless e v z .says
@@ -136,7 +137,7 @@ repeats-its-burst w f e =
     let k = took w f (ap takes e) in
     let r = k .repeat e in
     let l : k .asked .len ≡ previous w .end - previous w .base = omega (arith, r .base, r .end) in
-    (k .reads ∙ λ i. Outcome.value (record { offset = r .base i; len = l i }), ap (λ (b : Burst). b .base) (k .burst) ∙ r .base, ap (λ (b : Burst). b .end) (k .burst) ∙ r .end)
+    (k .reads ∙ λ i. Result.value (record { offset = r .base i; len = l i }), ap (λ (b : Burst). b .base) (k .burst) ∙ r .base, ap (λ (b : Burst). b .end) (k .burst) ∙ r .end)
 
 pub taken-again : TakenAgain
 taken-again w f t cs o g a = arrives w f t g a (after (writeArrivalOf w f .left) cs) (stands w f t (writeArrivalOf w f .left) cs o (stands-first w f t))

@@ -9,12 +9,12 @@ use Rattle.frame.specs.Read.{headerIn, iuOf}
 use Rattle.frame.specs.TlrControl.{SameButTlr, tlr≔}
 use Rattle.frame.proofs.TlrControl.{offset-same, iu-same}
 use Rattle.arrival.specs.declared.Arrived.{Arrived}
-use Rattle.arrival.specs.declared.Kind.{Kind}
+use Rattle.arrival.specs.declared.Class.{Class}
 use Rattle.arrival.specs.declared.Role.the-variants.{ReadInitiator, WriteInitiator, WriteTarget, ReadTarget}
 use Rattle.arrival.proofs.TlrControl.{arrived≔, alike}
-use Rattle.sender.specs.declared.types.Sender.{Sender}
-use Rattle.receiver.specs.DataFrame.{storing}
-use Rattle.receiver.specs.declared.types.Receiver.{Receiver}
+use Rattle.sender_steps.specs.declared.types.Sender.{Sender}
+use Rattle.receiver_steps.specs.DataFrame.{storing}
+use Rattle.receiver_steps.specs.declared.types.Receiver.{Receiver}
 use Rattle.initiator.specs.Read as reading
 use Rattle.initiator.specs.WriteRecord as recorded
 use Rattle.initiator.specs.WriteTake as writing
@@ -33,23 +33,23 @@ module _ (f g : List ℕ) (s : SameButTlr f g) where
 
   reads : (r : Receiver) (m : ℕ) → reading.readArrivalOf r f m ≡ reading.readArrivalOf r g m
   unfolding reading.readArrivalOf
-  reads r m = ap (unless (entryOf (reading.readLentOf r m) (r .ended)) r) (alike f g s ReadInitiator (r .transfer) (λ h o. reading.arrivedBy o r h m) (λ n. refl) (λ n a p. go n (a .kind) a p))
+  reads r m = ap (unless (entryOf (reading.readLentOf r m) (r .ended)) r) (alike f g s ReadInitiator (r .transfer) (λ h o. reading.arrivedBy o r h m) (λ n. refl) (λ n a p. go n (a .class) a p))
     where
-      go : (n : ℕ) (k : Kind) (a : Arrived) → take (a .len) (drop (a .start) f) ≡ take (a .len) (drop (a .start) g) → reading.takenOf k r a f m ≡ reading.takenOf k r (arrived≔ n a) g m
-      go n Kind.Data a p = refl
-      go n Kind.XferRdy a p = ap (reading.notExpectedOf r) p
-      go n Kind.Response a p = ap (reading.responseOf r (a .start) (a .len)) p
-      go n Kind.Other a p = refl
+      go : (n : ℕ) (k : Class) (a : Arrived) → take (a .len) (drop (a .start) f) ≡ take (a .len) (drop (a .start) g) → reading.takenOf k r a f m ≡ reading.takenOf k r (arrived≔ n a) g m
+      go n Class.Data a p = refl
+      go n Class.XferRdy a p = ap (reading.notExpectedOf r) p
+      go n Class.Response a p = ap (reading.responseOf r (a .start) (a .len)) p
+      go n Class.Other a p = refl
 
   takes : (w : Writer) → writing.writeArrivalOf w f ≡ writing.writeArrivalOf w g
   unfolding writing.writeArrivalOf writing.xferRdyTaken
-  takes w = ap (unless (entryOf (recorded.holdsOf w) (w .sender .ended)) w) (alike f g s WriteInitiator (w .sender .transfer) (λ h o. writing.arrivedBy o w h) (λ n. refl) (λ n a p. go n (a .kind) a p))
+  takes w = ap (unless (entryOf (recorded.holdsOf w) (w .sender .ended)) w) (alike f g s WriteInitiator (w .sender .transfer) (λ h o. writing.arrivedBy o w h) (λ n. refl) (λ n a p. go n (a .class) a p))
     where
-      go : (n : ℕ) (k : Kind) (a : Arrived) → take (a .len) (drop (a .start) f) ≡ take (a .len) (drop (a .start) g) → writing.takenOf k w a f ≡ writing.takenOf k w (arrived≔ n a) g
-      go n Kind.Data a p = refl
-      go n Kind.XferRdy a p = xfer-rdy-alike w (a .header) _ n ∙ ap (writing.xferRdyTaken w (tlr≔ n (a .header))) p
-      go n Kind.Response a p = ap (writing.responseOf w (a .start) (a .len)) p
-      go n Kind.Other a p = refl
+      go : (n : ℕ) (k : Class) (a : Arrived) → take (a .len) (drop (a .start) f) ≡ take (a .len) (drop (a .start) g) → writing.takenOf k w a f ≡ writing.takenOf k w (arrived≔ n a) g
+      go n Class.Data a p = refl
+      go n Class.XferRdy a p = xfer-rdy-alike w (a .header) _ n ∙ ap (writing.xferRdyTaken w (tlr≔ n (a .header))) p
+      go n Class.Response a p = ap (writing.responseOf w (a .start) (a .len)) p
+      go n Class.Other a p = refl
 
   fills : (x : Target) (m : ℕ) → filling.writeArrivalOf x f m ≡ filling.writeArrivalOf x g m
   unfolding filling.writeArrivalOf filling.takenOf

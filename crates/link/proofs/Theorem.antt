@@ -8,21 +8,23 @@ use native.Mathlib.Nat.{zero-mul}
 use native.Mathlib.Omega.{arith}
 use lib.ListN.{length}
 use Rattle.status.specs.Pick.{pick, all}
-use Rattle.status.specs.Outcome.{Outcome, granted}
+use Rattle.status.specs.Result.{Result, granted}
 use Rattle.status.proofs.Opened.{differ}
 use Rattle.status.proofs.Choose.{each}
 use Rattle.transfer.specs.Limits.{limitsHold}
 use Rattle.transfer.specs.declared.Transfer.{Transfer}
 use Rattle.transfer.proofs.Bounds.{bounds}
 use Rattle.sender.specs.Record as sender
-use Rattle.sender.specs.declared.types.Sender.{Sender}
+use Rattle.sender_steps.specs.Record as sender-step
+use Rattle.sender_steps.specs.declared.types.Sender.{Sender}
 use Rattle.sender.proofs.Kept as sender-kept
 use Rattle.receiver.specs.Record as receiver
-use Rattle.receiver.specs.declared.types.Receiver.{Receiver}
+use Rattle.receiver_steps.specs.Record as receiver-step
+use Rattle.receiver_steps.specs.declared.types.Receiver.{Receiver}
 use Rattle.receiver.proofs.Kept as receiver-kept
 use Rattle.link.specs.Ports.{Ports}
 use Rattle.link.specs.World.{World, Report}
-use Rattle.link.specs.Delivers.{Burst, fresh}
+use Rattle.link.specs.Delivers.{BurstParameters, fresh}
 use Rattle.link.specs.Claim.{Alike, Starts, Always, DeliveryClaim}
 use Rattle.link.specs.Reading.{readPorts}
 use Rattle.link.proofs.Setting.{Setting}
@@ -34,7 +36,7 @@ use Rattle.link.proofs.Filled.{Fills, fills}
 use Rattle.link.proofs.Exchange.{write-delivers}
 
 -- what a set-up that is not refused says
-set-up : {X : Type 0} (ok : Bool) (x y : X) → granted ok x ≡ Outcome.value y → (ok ≡ true) × (x ≡ y)
+set-up : {X : Type 0} (ok : Bool) (x y : X) → granted ok x ≡ Result.value y → (ok ≡ true) × (x ≡ y)
 unfolding granted pick
 set-up true x y e = (refl, cc)
 set-up false x y e = differ (cc)
@@ -73,10 +75,10 @@ module _ (t u : Transfer) (d b : List ℕ) (tl : limitsHold t ≡ true) (tr : t 
       }
 
   abbrev sent-of : Sender
-  sent-of = sender.beginning t (sender.whole t)
+  sent-of = sender-step.beginning t (sender.whole t)
 
   abbrev got-of : Receiver
-  got-of = receiver.beginning u 0 (u .count)
+  got-of = receiver-step.beginning u 0 (u .count)
 
   begins : Live setting read-simulates (fresh readPorts sent-of got-of d b)
   unfolding pick
@@ -101,8 +103,8 @@ module _ (t u : Transfer) (d b : List ℕ) (tl : limitsHold t ≡ true) (tr : t 
       (Standing.clean tt refl refl (inr (inr (refl, omega arith)))) refl
 
 -- what holds of both ports as they begin holds of those that were set up
-set-up-as : (t u : Transfer) (s : Sender) (r : Receiver) (d b : List ℕ) (Q : World readPorts → Type 0) → sender.setUpReadOf t ≡ Outcome.value s → receiver.setUpReadOf u ≡ Outcome.value r →
-    (limitsHold t ≡ true → t .write ≡ false → limitsHold u ≡ true → u .write ≡ false → Q (fresh readPorts (sender.beginning t (sender.whole t)) (receiver.beginning u 0 (u .count)) d b)) → Q (fresh readPorts s r d b)
+set-up-as : (t u : Transfer) (s : Sender) (r : Receiver) (d b : List ℕ) (Q : World readPorts → Type 0) → sender.setUpReadOf t ≡ Result.value s → receiver.setUpReadOf u ≡ Result.value r →
+    (limitsHold t ≡ true → t .write ≡ false → limitsHold u ≡ true → u .write ≡ false → Q (fresh readPorts (sender-step.beginning t (sender.whole t)) (receiver-step.beginning u 0 (u .count)) d b)) → Q (fresh readPorts s r d b)
 set-up-as t u s r d b Q hs hr f =
     let x = set-up (all (sender.setUpTests t)) _ s hs in
     let y = set-up (all (receiver.setUpTests u)) _ r hr in
@@ -117,7 +119,7 @@ delivery P b w (Starts.read t u s r d e hs hr a on dl bl) =
 delivery P b w (Starts.write x y out d e n hx ox zx a on dl el hands took acks) = write-delivers x y out d e n hx ox zx a on dl el hands took acks
 
 -- with the report of a read's delivery the initiator's filled mark is the byte count
-pub read-fills : (t u : Transfer) (s : Sender) (r : Receiver) (d b : List ℕ) → sender.setUpReadOf t ≡ Outcome.value s → receiver.setUpReadOf u ≡ Outcome.value r → Alike t u → 1 ≤ t .limit →
+pub read-fills : (t u : Transfer) (s : Sender) (r : Receiver) (d b : List ℕ) → sender.setUpReadOf t ≡ Result.value s → receiver.setUpReadOf u ≡ Result.value r → Alike t u → 1 ≤ t .limit →
     length d ≡ t .count → length b ≡ t .count → Fills {P = readPorts} (λ v. v .filled) (t .count) (fresh readPorts s r d b)
 read-fills t u s r d b hs hr a on dl bl =
     set-up-as t u s r d b (Fills {P = readPorts} (λ v. v .filled) (t .count)) hs hr

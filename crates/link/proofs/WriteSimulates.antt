@@ -1,39 +1,42 @@
 -- The ports of a write burst move as the two cores do, while no further XFER_RDY is taken.
 use Prim.Native.Nat.{ℕ, max, _≤_}
 use mathlib.Core.List.{List, []}
-use mathlib.Core.Bool.{Bool, true, false, false≢true}
+use mathlib.Core.Bool.{Bool, true, false}
 use mathlib.Core.Logic.{_⊎_, inl, inr, ⊎-elim}
 use mathlib.Core.Path.{_≡_, refl, sym, ap, subst, _∙_}
 use native.Mathlib.Omega.{arith}
 use lib.ListN.{length}
 use Rattle.status.specs.Pick.{pick, _with_}
 use Rattle.status.specs.Answer.{Said, Left, _saying_, refuses}
-use Rattle.status.proofs.Leaves.{Leaves, refused-same, refused-stores, picked}
+use Rattle.status.proofs.Leaves.{Leaves, refusing, refused-same, refused-stores, picked}
 use Rattle.transfer.specs.declared.Transfer.{Transfer}
 use Rattle.frame.specs.Format.{encode}
 use Rattle.frame.specs.Read.{headerIn, iuOf}
 use Rattle.frame.specs.Write.{writable, over, handing}
 use Rattle.frame.specs.declared.types.Header.{Header}
-use Rattle.sender.specs.Record as sender
+use Rattle.sender_steps.specs.Record as sender
 use Rattle.sender.specs.Transmit as transmit
-use Rattle.sender.specs.Answer as answer
-use Rattle.sender.specs.declared.types.Burst.{Burst}
-use Rattle.sender.specs.declared.types.Sender.{Sender}
-use Rattle.sender.proofs.Held as sender-held
+use Rattle.sender_steps.specs.Record.{lentOf}
+use Rattle.sender_steps.specs.Transmit as transmit-step
+use Rattle.sender_steps.specs.Confirmation as confirmation
+use Rattle.sender_steps.specs.declared.types.Burst.{Burst}
+use Rattle.sender_steps.specs.declared.types.Sender.{Sender}
+use Rattle.sender_steps.proofs.Held as sender-held
 use Rattle.sender.proofs.Ended as sender-ended
 use Rattle.sender.proofs.Shape.{Shape, next-shape}
-use Rattle.receiver.specs.DataFrame.{arrivalOf, storing}
-use Rattle.receiver.specs.DataFrame as receiving
-use Rattle.receiver.specs.declared.types.Receiver.{Receiver}
-use Rattle.receiver.proofs.Held as receiver-held
-use Rattle.receiver.proofs.Buffer.{storing-none}
+use Rattle.receiver_steps.specs.DataFrame.{storing}
+use Rattle.receiver.specs.DataFrame.{arrivalOf}
+use Rattle.receiver_steps.specs.Record as receiving
+use Rattle.receiver_steps.specs.declared.types.Receiver.{Receiver}
+use Rattle.receiver_steps.proofs.Held as receiver-held
+use Rattle.receiver_steps.proofs.Buffer.{storing-none}
 use Rattle.initiator.specs.Fields.{sender≔, reached≔}
 use Rattle.initiator.specs.WriteRecord.{holdsOf}
 use Rattle.initiator.specs.WriteSend.{begunOf, keptOf, nextOf, liftedOf, reachedOf}
 use Rattle.initiator.specs.WriteTake.{writeArrivalOf, endedOf}
 use Rattle.initiator.specs.declared.types.Writer.{Writer}
 use Rattle.initiator.proofs.WriteHeld.{Marks, held, holds-again, lent-again}
-use Rattle.initiator.proofs.WriteTold.{kept-says}
+use Rattle.initiator.proofs.WriteReturns.{kept-says}
 use Rattle.initiator.proofs.WriteSame.{begun-same, next-is, kept-sender, ack-is, nak-is, timeout-is, cut-is, loss-is}
 use Rattle.initiator.proofs.WriteEnded as writer-ended
 use Rattle.initiator.proofs.WriteKept.{holds-with}
@@ -47,9 +50,10 @@ use Rattle.target.proofs.Held as target-held
 use Rattle.target.proofs.Views.{data-arrives, data-placed, lifts-to}
 use Rattle.target.proofs.Kept.{arrived-lent, response-stores-nothing}
 use Rattle.target.proofs.Ended as target-ended
-use Rattle.link.specs.Ports.{Signal, Ports, signalled}
+use Rattle.link.specs.Ports.{Signal, Ports}
+use Rattle.link.specs.Calls.{signalled, writeSignalled, targetSignalled, TargetCall, targetCall}
 use Rattle.link.specs.Reading.{IsResponse}
-use Rattle.link.specs.Writing.{writeSignalled, targetSignalled, TargetCall, targetCall, TargetLate, writePorts}
+use Rattle.link.specs.Writing.{TargetLate, writePorts}
 use Rattle.link.proofs.Others.{Steady}
 use Rattle.link.proofs.Simulates.{Addressed, Simulates, signal-shape}
 
@@ -102,18 +106,18 @@ signal-is Signal.timeout w h p = timeout-is w h p
 signal-is Signal.cut w h p = cut-is w h p
 signal-is Signal.loss w h p = loss-is w h
 
-writes-ask : (w : Writer) (s : Sender) (d out : List ℕ) → WritesAs w s → transmit.lentOf s (length d) ≡ true →
+writes-ask : (w : Writer) (s : Sender) (d out : List ℕ) → WritesAs w s → lentOf s (length d) ≡ true →
     WritesAs (nextOf w d out .left) (transmit.nextOf s d out .left) × (nextOf w d out .says ≡ transmit.nextOf s d out .says) ×
-    (handing (nextOf w d out .says) (transmit.frameOf (begunOf w .sender) d) out ≡ handing (transmit.nextOf s d out .says) (transmit.frameOf s d) out)
+    (handing (nextOf w d out .says) (transmit-step.frameOf (begunOf w .sender) d) out ≡ handing (transmit.nextOf s d out .says) (transmit-step.frameOf s d) out)
 writes-ask w s d out a l =
     let e = a .sender in
-    let l′ : transmit.lentOf (w .sender) (length d) ≡ true = subst (λ (v : Sender). transmit.lentOf v (length d) ≡ true) (sym e) l in
+    let l′ : lentOf (w .sender) (length d) ≡ true = subst (λ (v : Sender). lentOf v (length d) ≡ true) (sym e) l in
     let c = sender-held.lent-holds (w .sender) (length d) l′ in
     let r = a .ready in
     let x = transmit.nextOf (w .sender) d out in
     let q = next-is w d out (lent-again w (length d) (whole w r (c .0)) (c .1)) (r .idle) in
     let said : nextOf w d out .says ≡ transmit.nextOf s d out .says = ap (λ (z : Left Writer). z .says) q ∙ kept-says w (reachedOf w x) ∙ ap (λ (v : Sender). transmit.nextOf v d out .says) e in
-    let frame : transmit.frameOf (begunOf w .sender) d ≡ transmit.frameOf s d = ap (λ (v : Writer). transmit.frameOf (v .sender) d) (begun-same w (r .idle)) ∙ ap (λ (v : Sender). transmit.frameOf v d) e in (
+    let frame : transmit-step.frameOf (begunOf w .sender) d ≡ transmit-step.frameOf s d = ap (λ (v : Writer). transmit-step.frameOf (v .sender) d) (begun-same w (r .idle)) ∙ ap (λ (v : Sender). transmit-step.frameOf v d) e in (
       record {
         sender = ap (λ (z : Left Writer). z .left .sender) q ∙ kept-sender w x (sender-ended.next-leaves (w .sender) d out) ∙ ap (λ (v : Sender). transmit.nextOf v d out .left) e;
         ready = subst (λ (z : Left Writer). Ready (z .left)) (sym q) (ready-next w r (c .0) d out);
@@ -136,14 +140,14 @@ writes-signal g w s a h =
     )
 
 -- a RESPONSE leaves the record or ends it
-writes-late : (f : List ℕ) → IsResponse f → (w : Writer) (s : Sender) → WritesAs w s → sender.holdsOf s ≡ true → WritesAs (writeArrivalOf w f .left) s ⊎ WritesAs (writeArrivalOf w f .left) (answer.endedOf s)
-writes-late f l w s a h = ⊎-elim (λ e. inl (subst (λ (v : Writer). WritesAs v s) (sym e) a)) (λ e. inr (subst (λ (v : Writer). WritesAs v (answer.endedOf s)) (sym e) ends)) (response-came w f l)
+writes-late : (f : List ℕ) → IsResponse f → (w : Writer) (s : Sender) → WritesAs w s → sender.holdsOf s ≡ true → WritesAs (writeArrivalOf w f .left) s ⊎ WritesAs (writeArrivalOf w f .left) (confirmation.endedOf s)
+writes-late f l w s a h = ⊎-elim (λ e. inl (subst (λ (v : Writer). WritesAs v s) (sym e) a)) (λ e. inr (subst (λ (v : Writer). WritesAs v (confirmation.endedOf s)) (sym e) ends)) (response-came w f l)
   where
-    ends : WritesAs (endedOf w) (answer.endedOf s)
+    ends : WritesAs (endedOf w) (confirmation.endedOf s)
     ends =
         let h′ : sender.holdsOf (w .sender) ≡ true = subst (λ (v : Sender). sender.holdsOf v ≡ true) (sym (a .sender)) h in
         let m = a .ready .marks in
-        record { sender = ap answer.endedOf (a .sender); ready = keeps w (a .ready) h′ (answer.endedOf (w .sender)) (w .reached) refl refl (m .reached-least) (m .reached-most) }
+        record { sender = ap confirmation.endedOf (a .sender); ready = keeps w (a .ready) h′ (confirmation.endedOf (w .sender)) (w .reached) refl refl (m .reached-least) (m .reached-most) }
 
 -- ── the target ──
 -- the XFER_RDY under this tag had its ACK
@@ -161,7 +165,7 @@ module _ (tptt : ℕ) (y : Target) (h : Header) (iu b : List ℕ) (a : TakesAs t
   core = arrivalOf (y .receiver) (h .offset) (h .flags .cdp) (length iu) (length b)
 
   arrives : arrival.writeArrivalOf y (encode h iu) (length b) ≡ arrival.liftedOf y core
-  arrives = data-arrives y h iu (length b) lent o (a .ready) (d .kind) (d .dest) (d .source) (d .tag) (d .tptt ∙ sym (a .current)) (d .range) c
+  arrives = data-arrives y h iu (length b) lent o (a .ready) (d .frametype) (d .dest) (d .source) (d .tag) (d .tptt ∙ sym (a .current)) (d .range) c
 
   takes-arrival : TakesAs tptt (arrival.writeArrivalOf y (encode h iu) (length b) .left) (core .left) ×
       (storing (arrival.writeArrivalOf y (encode h iu) (length b) .says) (headerIn (encode h iu) .offset) (iuOf (encode h iu)) b ≡ storing (core .says) (h .offset) iu b)
@@ -193,15 +197,7 @@ target-leaves Signal.cut y = target-ended.cut-leaves y
 target-leaves Signal.loss y = target-ended.loss-leaves y
 
 unhanded : (a : Said) → refuses a ≡ true → (f out : List ℕ) → handing a f out ≡ out
-unhanded (Said.refused n) e f out = refl
-unhanded (Said.failed n k) e f out = refl
-unhanded (Said.frame n) e f out = absurd (false≢true e)
-unhanded (Said.delivered n) e f out = refl
-unhanded Said.stored e f out = refl
-unhanded Said.received e f out = refl
-unhanded (Said.burst t) e f out = refl
-unhanded (Said.response start len o n) e f out = refl
-unhanded (Said.told v) e f out = refl
+unhanded a e f out = refusing (λ (b : Said). handing b f out ≡ out) (λ n. refl) a e
 
 target-refused : (c : TargetCall) (y : Target) (b : List ℕ) → refuses (targetCall c y b .says) ≡ true → (targetCall c y b .left ≡ y) × (targetCall c y b .lent ≡ b)
 target-refused (TargetCall.bytes f) y b e =

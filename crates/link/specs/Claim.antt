@@ -6,25 +6,25 @@ use mathlib.Core.Bool.{true, false}
 use mathlib.Core.Path.{_≡_}
 use lib.ListN.{length, take}
 use Rattle.status.specs.Answer.{Word, Said}
-use Rattle.status.specs.Outcome.{Outcome}
+use Rattle.status.specs.Result.{Result}
 use Rattle.frame.specs.Write.{handing}
 use Rattle.transfer.specs.declared.Transfer.{Transfer}
 use Rattle.sender.specs.Record as sender
-use Rattle.sender.specs.declared.types.Sender.{Sender}
+use Rattle.sender_steps.specs.declared.types.Sender.{Sender}
 use Rattle.receiver.specs.Record as receiver
-use Rattle.receiver.specs.declared.types.Receiver.{Receiver}
+use Rattle.receiver_steps.specs.declared.types.Receiver.{Receiver}
 use Rattle.initiator.specs.WriteRecord.{holdsOf}
 use Rattle.initiator.specs.WriteCount.{takes}
 use Rattle.initiator.specs.WriteTake.{writeArrivalOf}
 use Rattle.initiator.specs.declared.types.Writer.{Writer}
 use Rattle.target.specs.Transmit as target
-use Rattle.target.specs.Answer.{ackOf}
+use Rattle.target.specs.Confirmation.{ackOf}
 use Rattle.target.specs.declared.types.Target.{Target}
 use Rattle.link.specs.Ports.{Ports}
 use Rattle.link.specs.Reading.{readPorts}
 use Rattle.link.specs.Writing.{writePorts}
 use Rattle.link.specs.World.{World, Event, run, Allowed}
-use Rattle.link.specs.Delivers.{Burst, fresh, Delivers}
+use Rattle.link.specs.Delivers.{BurstParameters, fresh, Delivers}
 
 -- "both ports set up alike (limits, addresses, tag)": each one's local address is the other's remote one; a tag has 16 bits. A read has no
 -- burst size, and a write burst's is its XFER_RDY's
@@ -43,9 +43,9 @@ abbrev pub xferRdySent : Target → List ℕ → ℕ → List ℕ
 xferRdySent y out n = take n (handing (target.nextOf y out .says) (target.frameOf y) out)
 
 -- "Take one read, .. retries on, both ports set up alike, none of its frames handed out yet"; any buffers of the byte count's length
-pub data Starts : (P : Ports) → Burst → World P → Type 1 where
+pub data Starts : (P : Ports) → BurstParameters → World P → Type 1 where
   read : (t u : Transfer) (s : Sender) (r : Receiver) (d b : List ℕ) →
-      sender.setUpReadOf t ≡ Outcome.value s → receiver.setUpReadOf u ≡ Outcome.value r → Alike t u → 1 ≤ t .limit →
+      sender.setUpReadOf t ≡ Result.value s → receiver.setUpReadOf u ≡ Result.value r → Alike t u → 1 ≤ t .limit →
       length d ≡ t .count → length b ≡ t .count →
       Starts readPorts (record { base = 0; end = t .count; size = t .size; limit = t .limit }) (fresh readPorts s r d b)
   -- "or one write burst whose XFER_RDY had its ACK at the target before the first DATA frame": any well-formed records x and y that are set up alike, at any
@@ -56,7 +56,7 @@ pub data Starts : (P : Ports) → Burst → World P → Type 1 where
       length d ≡ x .sender .transfer .count → length b ≡ x .sender .transfer .count →
       target.nextOf y out .says ≡ Said.frame n →
       takes (writeArrivalOf x (xferRdySent y out n) .says) ≡ true →
-      ackOf (target.nextOf y out .left) .says ≡ Said.told Word.acknowledged →
+      ackOf (target.nextOf y out .left) .says ≡ Said.word Word.acknowledged →
       Starts writePorts
       (record {
         base = target.nextOf y out .left .receiver .base;
@@ -67,9 +67,9 @@ pub data Starts : (P : Ports) → Burst → World P → Type 1 where
       (fresh writePorts (writeArrivalOf x (xferRdySent y out n) .left) (ackOf (target.nextOf y out .left) .left) d b)
 
 -- from a start, after every allowed list of events
-abbrev pub Always : {P : Ports} → Burst → World P → Type 0
+abbrev pub Always : {P : Ports} → BurstParameters → World P → Type 0
 Always {P} b start = (es : List (Event P)) → Allowed start es → Delivers b start (run start es)
 
 -- the claim, proved in proofs/Theorem
 abbrev pub DeliveryClaim : Type 1
-DeliveryClaim = (P : Ports) (b : Burst) (w : World P) → Starts P b w → Always b w
+DeliveryClaim = (P : Ports) (b : BurstParameters) (w : World P) → Starts P b w → Always b w

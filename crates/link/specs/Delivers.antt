@@ -10,14 +10,14 @@ use Rattle.link.specs.Tally.{nothing}
 use Rattle.link.specs.World.{World, Report, Reported}
 
 -- the burst that is delivered: its offsets, the data size, the retry limit
-pub record Burst : Type 0 where
+pub record BurstParameters : Type 0 where
   pub base : ℕ
   pub end : ℕ
   pub size : ℕ
   pub limit : ℕ
 
 -- "A faultless transfer needs the burst divided by the data size, rounded up"
-abbrev pub faultless : Burst → ℕ
+abbrev pub faultless : BurstParameters → ℕ
 faultless b = (b .end - b .base + (b .size - 1)) / b .size
 
 -- nothing has happened yet between two ports
@@ -29,7 +29,7 @@ fresh P s r sent received =
       sent = sent;
       received = received;
       frames = [];
-      answers = [];
+      confirmations = [];
       tally = nothing;
       handed = [];
       report = Report.none;
@@ -40,7 +40,7 @@ module _ {P : Ports} where
   abbrev pub Concluded : World P → Type 0
   Concluded w =
       Reported w ⊎
-      ((w .tally .unanswered ≡ 0) × ((out : List ℕ) × (P .ask (w .sending) (w .sent) out .says ≡ Said.told Word.wait)))
+      ((w .tally .unanswered ≡ 0) × ((out : List ℕ) × (P .ask (w .sending) (w .sent) out .says ≡ Said.word Word.wait)))
 
   abbrev pub Delivered : World P → Type 0
   Delivered w = (n : ℕ) × (w .report ≡ Report.delivered n)
@@ -50,7 +50,7 @@ module _ {P : Ports} where
   LinkFailed w = (f : ℕ) × ((n : ℕ) × (w .report ≡ Report.failed f n) × (28 ≤ f) × (f ≤ 30))
 
   -- w after a list of events that began at start
-  pub record Delivers (b : Burst) (start w : World P) : Type 0 where
+  pub record Delivers (b : BurstParameters) (start w : World P) : Type 0 where
     -- 1: "if the sending port reported delivery, every byte of the burst stands in the receiving buffer as in the sending one, at the same offset"
     pub stored : Delivered w → (i : ℕ) → b .base ≤ i → i < b .end → getD (w .received) i 0 ≡ getD (start .sent) i 0
     -- 2: "and no other byte changed"; "only the receiving port writes, in its own"

@@ -1,5 +1,7 @@
 pub mod Ports
+pub mod Calls
 pub mod Tally
+pub mod OneFault
 pub mod World
 pub mod Delivers
 pub mod Reading
@@ -7,9 +9,4 @@ pub mod Writing
 pub mod Claim
 pub mod TakenAlike
 pub mod Resent
-pub mod Worked
-pub mod WorkedFaults
-pub mod WorkedWrite
-pub mod WorkedCrossing
-pub mod WorkedRepeat
-pub mod WorkedResponse
+pub mod EndedRefuses

@@ -2,9 +2,8 @@
 use Prim.Native.Nat.{ℕ}
 use mathlib.Core.List.{List, [], _∷_}
 use lib.ListN.{take}
-use Rattle.status.specs.Answer.{Said, Left}
-use Rattle.sender.specs.Answer.{ackOf, nakOf, timeoutOf, cutOf, lossOf}
-use Rattle.sender.specs.declared.types.Sender.{Sender}
+use Rattle.status.specs.Pick.{ifAny}
+use Rattle.status.specs.Answer.{Said, view, Left}
 
 -- a call's record as it is left, what it answers, and the lent buffer as it is left
 pub record Called (X : Type 0) : Type 0 where
@@ -17,15 +16,7 @@ lending x b = record { left = x .left; says = x .says; lent = b }
 
 -- the frame that a call handed out, if any: the bytes at the front of the output buffer
 abbrev pub frameIn : Said → List ℕ → List (List ℕ)
-frameIn (Said.frame n) out = take n out ∷ []
-frameIn (Said.refused n) out = []
-frameIn (Said.failed n k) out = []
-frameIn (Said.delivered n) out = []
-frameIn Said.stored out = []
-frameIn Said.received out = []
-frameIn (Said.burst t) out = []
-frameIn (Said.response start len o n) out = []
-frameIn (Said.told w) out = []
+frameIn a out = ifAny (view a .frame) (λ n. take n out ∷ []) []
 
 -- what a port is told without a buffer
 pub data Signal : Type 0 where
@@ -47,10 +38,3 @@ pub record Ports : Type 1 where
   pub receiveCall : ReceiveCall → Receiving → List ℕ → Called Receiving
   pub ReceiveLate : ReceiveCall → Type 0
   pub arrival : List ℕ → ReceiveCall
-
-abbrev pub signalled : Signal → Sender → Left Sender
-signalled Signal.ack s = ackOf s
-signalled Signal.nak s = nakOf s
-signalled Signal.timeout s = timeoutOf s
-signalled Signal.cut s = cutOf s
-signalled Signal.loss s = lossOf s

@@ -8,24 +8,23 @@ use mathlib.Core.Path.{_≡_}
 use lib.ListN.{length}
 use Rattle.status.specs.Answer.{Taking, Said, Left, _saying_, unless}
 use Rattle.status.specs.Entry.{entryOf}
-use Rattle.status.specs.Outcome.{Outcome}
+use Rattle.status.specs.Result.{Result}
 use Rattle.frame.specs.Read.{headerIn, iuOf}
 use Rattle.frame.specs.XferRdy.{xferRdyOf}
 use Rattle.frame.specs.declared.types.Header.{Header}
 use Rattle.initiator.specs.WriteRecord.{holdsOf}
 use Rattle.initiator.specs.WriteCount.{takes}
-use Rattle.initiator.specs.WriteSend.{nextOf}
 use Rattle.initiator.specs.WriteTake.{previous, writeArrivalOf}
 use Rattle.initiator.specs.declared.types.Writer.{Writer}
 use Rattle.target.specs.declared.types.Target.{Target}
-use Rattle.link.specs.Ports.{Signal, frameIn}
-use Rattle.link.specs.Writing.{writeSignalled, TargetCall, targetCall}
+use Rattle.link.specs.Ports.{frameIn}
+use Rattle.link.specs.Calls.{WriterCall, writerCall, TargetCall, targetCall}
 
 -- the header h "RETRANSMIT one, a new TPTT, the rest the same"
 abbrev pub again : ℕ → Header → Header
 again tptt h =
     record {
-      kind = h .kind;
+      frametype = h .frametype;
       dest = h .dest;
       source = h .source;
       flags = record { tlr = h .flags .tlr; retry = h .flags .retry; retransmit = true; cdp = h .flags .cdp };
@@ -64,20 +63,9 @@ HandedOutAgain = (y : Target) (cs : List (TargetCall × List ℕ)) → InTurn (x
 -- which stays the previous one
 abbrev pub RepeatsItsBurst : Type 0
 RepeatsItsBurst =
-    (w : Writer) (f : List ℕ) → let x = writeArrivalOf w f in let p = previous w in x .says ≡ Said.burst Taking.repeats →
-    (xferRdyOf (iuOf f) ≡ Outcome.value (record { offset = p .base; len = p .end - p .base })) ×
+    (w : Writer) (f : List ℕ) → let x = writeArrivalOf w f in let p = previous w in x .says ≡ Said.xferRdy Taking.repeats →
+    (xferRdyOf (iuOf f) ≡ Result.value (record { offset = p .base; len = p .end - p .base })) ×
     (previous (x .left) .base ≡ p .base) × (previous (x .left) .end ≡ p .end)
-
--- its entry points: a frame asked for, with data buffer and output buffer; what it is told; arrivals of any bytes
-pub data WriterCall : Type 0 where
-  asking : List ℕ → List ℕ → WriterCall
-  signals : Signal → WriterCall
-  bytes : List ℕ → WriterCall
-
-abbrev pub writerCall : WriterCall → Writer → Left Writer
-writerCall (WriterCall.asking d out) w = nextOf w d out
-writerCall (WriterCall.signals g) w = writeSignalled g w
-writerCall (WriterCall.bytes f) w = writeArrivalOf w f
 
 abbrev pub after : Writer → List WriterCall → Writer
 after w [] = w
@@ -95,7 +83,7 @@ TakesOnly f w (c ∷ cs) = ((takes (writerCall c w .says) ≡ false) ⊎ Brings 
 
 -- the answer to g: 1, 2, else it is taken as a repeat
 abbrev pub TakenAsRepeat : Writer → List ℕ → Type 0
-TakenAsRepeat w g = writeArrivalOf w g .says ≡ unless (entryOf (holdsOf w) (w .sender .ended)) w (w saying Said.burst Taking.repeats) .says
+TakenAsRepeat w g = writeArrivalOf w g .says ≡ unless (entryOf (holdsOf w) (w .sender .ended)) w (w saying Said.xferRdy Taking.repeats) .says
 
 -- an initiator that took f answers f sent again, at any time, by 1, 2, else as a repeat: never 25
 abbrev pub TakenAgain : Type 0

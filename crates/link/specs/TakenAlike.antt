@@ -5,14 +5,13 @@ use mathlib.Core.Path.{_≡_}
 use Rattle.frame.specs.TlrControl.{SameButTlr}
 use Rattle.arrival.specs.declared.Role.{Role}
 use Rattle.arrival.specs.declared.Role.the-variants.{ReadInitiator, WriteInitiator, WriteTarget, ReadTarget}
-use Rattle.sender.specs.declared.types.Sender.{Sender}
-use Rattle.receiver.specs.declared.types.Receiver.{Receiver}
+use Rattle.sender_steps.specs.declared.types.Sender.{Sender}
+use Rattle.receiver_steps.specs.declared.types.Receiver.{Receiver}
 use Rattle.initiator.specs.WriteTake as initiator
 use Rattle.initiator.specs.declared.types.Writer.{Writer}
 use Rattle.target.specs.declared.types.Target.{Target}
 use Rattle.link.specs.Ports.{Called, lending}
-use Rattle.link.specs.Reading.{SenderCall, senderCall, ReaderCall, readerCall}
-use Rattle.link.specs.Writing.{TargetCall, targetCall}
+use Rattle.link.specs.Calls.{SenderCall, senderCall, ReaderCall, readerCall, TargetCall, targetCall}
 
 -- the record of a role
 abbrev pub RecordOf : Role → Type 0

@@ -3,12 +3,12 @@ use Prim.Native.Nat.{ℕ, _+_, _-_}
 use lib.Dec.{eqb}
 use Rattle.status.specs.Pick.{pick}
 
--- an answer on the way; a NAK is the answer to a damaged frame
-pub data Answer : Type 0 where
-  ack nak : Answer
+-- the paper's answer on the way: an ACK or a NAK
+pub data Confirmation : Type 0 where
+  ack nak : Confirmation
 
 pub record Tally : Type 0 where
-  -- since the last timeout or cut: handed out less the answers that reached the sending port; frames and answers lost
+  -- since the last timeout or cut: handed out less the confirmations that reached the sending port; frames and confirmations lost
   pub unanswered : ℕ
   pub lost : ℕ
   pub faults : ℕ
@@ -26,16 +26,16 @@ frameLost t = record { unanswered = t .unanswered; lost = t .lost + 1; faults = 
 abbrev pub frameDamaged : Tally → Tally
 frameDamaged t = record { unanswered = t .unanswered; lost = t .lost; faults = t .faults + 1 }
 
-abbrev pub answerReached : Tally → Tally
-answerReached t = record { unanswered = t .unanswered - 1; lost = t .lost; faults = t .faults }
+abbrev pub confirmationReached : Tally → Tally
+confirmationReached t = record { unanswered = t .unanswered - 1; lost = t .lost; faults = t .faults }
 
 -- a damaged frame was counted when its NAK joined
-abbrev pub answerFault : Answer → ℕ
-answerFault ack = 1
-answerFault nak = 0
+abbrev pub confirmationFault : Confirmation → ℕ
+confirmationFault ack = 1
+confirmationFault nak = 0
 
-abbrev pub answerLost : Answer → Tally → Tally
-answerLost a t = record { unanswered = t .unanswered; lost = t .lost + 1; faults = t .faults + answerFault a }
+abbrev pub confirmationLost : Confirmation → Tally → Tally
+confirmationLost a t = record { unanswered = t .unanswered; lost = t .lost + 1; faults = t .faults + confirmationFault a }
 
 -- "or a cut or early timeout with frames unanswered (one, what it clears not counted again)"
 unfoldable pub cutFault : Tally → ℕ

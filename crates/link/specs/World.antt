@@ -5,33 +5,26 @@ use mathlib.Core.Bool.{true}
 use mathlib.Core.Logic.{_⊎_}
 use mathlib.Core.Path.{_≡_}
 use lib.ListN.{take}
-use Rattle.status.specs.Pick.{_with_}
-use Rattle.status.specs.Answer.{Said, Left, refuses}
+use Rattle.status.specs.Pick.{ifAny, _with_}
+use Rattle.status.specs.Answer.{Said, view, Left, refuses}
+pub use Rattle.status.specs.Report.{Report}
 use Rattle.link.specs.Ports.{Called, lending, Signal, Ports}
-use Rattle.link.specs.Tally.{Answer, Tally, handedOut, frameLost, frameDamaged, answerReached, answerLost, cutFault, timeoutFault, closed}
-
--- what the sending port has reported, with the number of frames handed out; a failure by its number
-pub data Report : Type 0 where
-  none : Report
-  delivered : ℕ → Report
-  failed : ℕ → ℕ → Report
+use Rattle.link.specs.Tally.{Confirmation, Tally, handedOut, frameLost, frameDamaged, confirmationReached, confirmationLost, cutFault, timeoutFault, closed}
 
 -- the first report stays
 abbrev pub first : Report → Report → Report
-first none q = q
-first (delivered n) q = delivered n
-first (failed f n) q = failed f n
+first Report.none q = q
+first (Report.delivered n) q = Report.delivered n
+first (Report.failed f n) q = Report.failed f n
+
+-- what is reported now, if anything, after q
+abbrev pub next : Report → Report → Report
+next Report.none q = q
+next (Report.delivered n) q = first q (Report.delivered n)
+next (Report.failed f n) q = first q (Report.failed f n)
 
 abbrev pub noted : Said → Report → Report
-noted (Said.delivered n) q = first q (delivered n)
-noted (Said.failed f n) q = first q (failed f n)
-noted (Said.refused n) q = q
-noted (Said.frame n) q = q
-noted Said.stored q = q
-noted Said.received q = q
-noted (Said.burst t) q = q
-noted (Said.response start len o n) q = q
-noted (Said.told w) q = q
+noted a q = next (view a .report) q
 
 pub record World (P : Ports) : Type 0 where
   pub sending : P .Sending
@@ -39,9 +32,9 @@ pub record World (P : Ports) : Type 0 where
   -- the ports' data buffers
   pub sent : List ℕ
   pub received : List ℕ
-  -- on the way: frames as bytes, and answers
+  -- on the way: frames as bytes, and confirmations
   pub frames : List (List ℕ)
-  pub answers : List Answer
+  pub confirmations : List Confirmation
   pub tally : Tally
   -- the history of frames: every frame handed out, as bytes
   pub handed : List (List ℕ)
@@ -62,14 +55,14 @@ pub data Event (P : Ports) : Type 0 where
   ask : List ℕ → Event P
   -- the first frame arrives whole, arrives damaged, is lost
   arrives damaged frame-lost : Event P
-  -- the first answer reaches the sending port, is lost
-  answered answer-lost : Event P
+  -- the first confirmation reaches the sending port, is lost
+  confirmed confirmation-lost : Event P
   timeout cut : Event P
   other : Call P → Event P
 
-abbrev pub signalOf : Answer → Signal
-signalOf Answer.ack = Signal.ack
-signalOf Answer.nak = Signal.nak
+abbrev pub signalOf : Confirmation → Signal
+signalOf Confirmation.ack = Signal.ack
+signalOf Confirmation.nak = Signal.nak
 
 -- "any calls that are refused or change nothing": record, lent buffer and report
 abbrev pub Harmless : {X : Type 0} → X → List ℕ → Report → Called X → Type 0
@@ -78,28 +71,28 @@ Harmless x b q y = (refuses (y .says) ≡ true) ⊎ ((y .left ≡ x) × (y .lent
 module _ {P : Ports} where
   -- the fields that an event sets anew
   abbrev pub sending≔ : P .Sending → World P → World P
-  sending≔ v w = record { sending = v; receiving = w .receiving; sent = w .sent; received = w .received; frames = w .frames; answers = w .answers; tally = w .tally; handed = w .handed; report = w .report }
+  sending≔ v w = record { sending = v; receiving = w .receiving; sent = w .sent; received = w .received; frames = w .frames; confirmations = w .confirmations; tally = w .tally; handed = w .handed; report = w .report }
 
   abbrev pub receiving≔ : P .Receiving → World P → World P
-  receiving≔ v w = record { sending = w .sending; receiving = v; sent = w .sent; received = w .received; frames = w .frames; answers = w .answers; tally = w .tally; handed = w .handed; report = w .report }
+  receiving≔ v w = record { sending = w .sending; receiving = v; sent = w .sent; received = w .received; frames = w .frames; confirmations = w .confirmations; tally = w .tally; handed = w .handed; report = w .report }
 
   abbrev pub received≔ : List ℕ → World P → World P
-  received≔ v w = record { sending = w .sending; receiving = w .receiving; sent = w .sent; received = v; frames = w .frames; answers = w .answers; tally = w .tally; handed = w .handed; report = w .report }
+  received≔ v w = record { sending = w .sending; receiving = w .receiving; sent = w .sent; received = v; frames = w .frames; confirmations = w .confirmations; tally = w .tally; handed = w .handed; report = w .report }
 
   abbrev pub frames≔ : List (List ℕ) → World P → World P
-  frames≔ v w = record { sending = w .sending; receiving = w .receiving; sent = w .sent; received = w .received; frames = v; answers = w .answers; tally = w .tally; handed = w .handed; report = w .report }
+  frames≔ v w = record { sending = w .sending; receiving = w .receiving; sent = w .sent; received = w .received; frames = v; confirmations = w .confirmations; tally = w .tally; handed = w .handed; report = w .report }
 
-  abbrev pub answers≔ : List Answer → World P → World P
-  answers≔ v w = record { sending = w .sending; receiving = w .receiving; sent = w .sent; received = w .received; frames = w .frames; answers = v; tally = w .tally; handed = w .handed; report = w .report }
+  abbrev pub confirmations≔ : List Confirmation → World P → World P
+  confirmations≔ v w = record { sending = w .sending; receiving = w .receiving; sent = w .sent; received = w .received; frames = w .frames; confirmations = v; tally = w .tally; handed = w .handed; report = w .report }
 
   abbrev pub tally≔ : Tally → World P → World P
-  tally≔ v w = record { sending = w .sending; receiving = w .receiving; sent = w .sent; received = w .received; frames = w .frames; answers = w .answers; tally = v; handed = w .handed; report = w .report }
+  tally≔ v w = record { sending = w .sending; receiving = w .receiving; sent = w .sent; received = w .received; frames = w .frames; confirmations = w .confirmations; tally = v; handed = w .handed; report = w .report }
 
   abbrev pub handed≔ : List (List ℕ) → World P → World P
-  handed≔ v w = record { sending = w .sending; receiving = w .receiving; sent = w .sent; received = w .received; frames = w .frames; answers = w .answers; tally = w .tally; handed = v; report = w .report }
+  handed≔ v w = record { sending = w .sending; receiving = w .receiving; sent = w .sent; received = w .received; frames = w .frames; confirmations = w .confirmations; tally = w .tally; handed = v; report = w .report }
 
   abbrev pub report≔ : Report → World P → World P
-  report≔ v w = record { sending = w .sending; receiving = w .receiving; sent = w .sent; received = w .received; frames = w .frames; answers = w .answers; tally = w .tally; handed = w .handed; report = v }
+  report≔ v w = record { sending = w .sending; receiving = w .receiving; sent = w .sent; received = w .received; frames = w .frames; confirmations = w .confirmations; tally = w .tally; handed = w .handed; report = v }
 
   -- the sending port's record after a call on it, with what it reported; the link stays
   abbrev pub sends : World P → Left (P .Sending) → World P
@@ -107,15 +100,8 @@ module _ {P : Ports} where
 
   -- "a frame asked for (one handed out joins)": the frame stands at the front of the output buffer
   abbrev pub joins : Said → World P → List ℕ → World P
-  joins (Said.frame n) w out = w with frames≔ (w .frames ++ (take n out ∷ [])) with handed≔ (w .handed ++ (take n out ∷ [])) with tally≔ (handedOut (w .tally))
-  joins (Said.refused n) w out = w
-  joins (Said.failed f n) w out = w
-  joins (Said.delivered n) w out = w
-  joins Said.stored w out = w
-  joins Said.received w out = w
-  joins (Said.burst t) w out = w
-  joins (Said.response start len o n) w out = w
-  joins (Said.told v) w out = w
+  joins a w out =
+      ifAny (view a .frame) (λ n. w with frames≔ (w .frames ++ (take n out ∷ [])) with handed≔ (w .handed ++ (take n out ∷ [])) with tally≔ (handedOut (w .tally))) w
 
   abbrev pub asks : World P → Called (P .Sending) → World P
   asks w x = joins (x .says) (sends w (record { left = x .left; says = x .says })) (x .lent)
@@ -127,12 +113,12 @@ module _ {P : Ports} where
   -- "arriving whole (the receiving port gets it, an ACK joins)"
   abbrev pub arrivesWhole : World P → List (List ℕ) → World P
   arrivesWhole w [] = w
-  arrivesWhole w (f ∷ fs) = receives w (P .receiveCall (P .arrival f) (w .receiving) (w .received)) with frames≔ fs with answers≔ (w .answers ++ (Answer.ack ∷ []))
+  arrivesWhole w (f ∷ fs) = receives w (P .receiveCall (P .arrival f) (w .receiving) (w .received)) with frames≔ fs with confirmations≔ (w .confirmations ++ (Confirmation.ack ∷ []))
 
   -- "damaged (kept from it, a NAK joins)"
   abbrev pub arrivesDamaged : World P → List (List ℕ) → World P
   arrivesDamaged w [] = w
-  arrivesDamaged w (f ∷ fs) = w with frames≔ fs with answers≔ (w .answers ++ (Answer.nak ∷ [])) with tally≔ (frameDamaged (w .tally))
+  arrivesDamaged w (f ∷ fs) = w with frames≔ fs with confirmations≔ (w .confirmations ++ (Confirmation.nak ∷ [])) with tally≔ (frameDamaged (w .tally))
 
   -- "or lost"
   abbrev pub losesFrame : World P → List (List ℕ) → World P
@@ -140,18 +126,18 @@ module _ {P : Ports} where
   losesFrame w (f ∷ fs) = w with frames≔ fs with tally≔ (frameLost (w .tally))
 
   -- "the first answer, if any, reaching the sending port"
-  abbrev pub answers : World P → List Answer → World P
-  answers w [] = w
-  answers w (a ∷ rest) = sends (w with answers≔ rest with tally≔ (answerReached (w .tally))) (P .signal (signalOf a) (w .sending))
+  abbrev pub confirms : World P → List Confirmation → World P
+  confirms w [] = w
+  confirms w (a ∷ rest) = sends (w with confirmations≔ rest with tally≔ (confirmationReached (w .tally))) (P .signal (signalOf a) (w .sending))
 
   -- "or lost"
-  abbrev pub losesAnswer : World P → List Answer → World P
-  losesAnswer w [] = w
-  losesAnswer w (a ∷ rest) = w with answers≔ rest with tally≔ (answerLost a (w .tally))
+  abbrev pub losesConfirmation : World P → List Confirmation → World P
+  losesConfirmation w [] = w
+  losesConfirmation w (a ∷ rest) = w with confirmations≔ rest with tally≔ (confirmationLost a (w .tally))
 
   -- "a timeout or cut told to that port, which closes the connection and clears both"
   abbrev pub closes : World P → Signal → ℕ → World P
-  closes w g fault = sends (w with frames≔ [] with answers≔ [] with tally≔ (closed fault (w .tally))) (P .signal g (w .sending))
+  closes w g fault = sends (w with frames≔ [] with confirmations≔ [] with tally≔ (closed fault (w .tally))) (P .signal g (w .sending))
 
   -- any other call moves its port's record; it leaves the link as it is
   abbrev pub called : World P → Call P → World P
@@ -166,8 +152,8 @@ module _ {P : Ports} where
   step w arrives = arrivesWhole w (w .frames)
   step w damaged = arrivesDamaged w (w .frames)
   step w frame-lost = losesFrame w (w .frames)
-  step w answered = answers w (w .answers)
-  step w answer-lost = losesAnswer w (w .answers)
+  step w confirmed = confirms w (w .confirmations)
+  step w confirmation-lost = losesConfirmation w (w .confirmations)
   step w timeout = closes w Signal.timeout (timeoutFault (w .tally))
   step w cut = closes w Signal.cut (cutFault (w .tally))
   step w (other k) = called w k
@@ -197,7 +183,7 @@ module _ {P : Ports} where
   Late (at-receiver-in c b) = P .ReceiveLate c
 
   abbrev pub Reported : World P → Type 0
-  Reported w = w .report ≡ none → ⊥
+  Reported w = w .report ≡ Report.none → ⊥
 
   abbrev pub Allows : World P → Event P → Type 0
   Allows w (other k) = Idle w k ⊎ (Reported w × Late k)
@@ -205,8 +191,8 @@ module _ {P : Ports} where
   Allows w arrives = Unit {0}
   Allows w damaged = Unit {0}
   Allows w frame-lost = Unit {0}
-  Allows w answered = Unit {0}
-  Allows w answer-lost = Unit {0}
+  Allows w confirmed = Unit {0}
+  Allows w confirmation-lost = Unit {0}
   Allows w timeout = Unit {0}
   Allows w cut = Unit {0}
 

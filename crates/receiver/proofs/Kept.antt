@@ -9,11 +9,13 @@ use Rattle.status.specs.Answer.{Left}
 use Rattle.status.proofs.Leaves.{unless-gives}
 use Rattle.transfer.specs.Limits.{limitsHold}
 use Rattle.transfer.specs.declared.Transfer.{Transfer}
-use Rattle.receiver.specs.Fields.{ended≔}
-use Rattle.receiver.specs.Record.{tests, holdsOf, beginning, lossOf}
-use Rattle.receiver.specs.DataFrame.{lentOf, waitingOf, storedOf, arrivalOf}
-use Rattle.receiver.specs.declared.types.Receiver.{Receiver}
-use Rattle.receiver.proofs.Held.{held, holds-again, limits-again, lent, lent-again}
+use Rattle.receiver_steps.specs.Fields.{ended≔}
+use Rattle.receiver_steps.specs.Record.{tests, holdsOf, beginning, lentOf}
+use Rattle.receiver.specs.Record.{lossOf}
+use Rattle.receiver_steps.specs.DataFrame.{waitingOf, storedOf}
+use Rattle.receiver.specs.DataFrame.{arrivalOf}
+use Rattle.receiver_steps.specs.declared.types.Receiver.{Receiver}
+use Rattle.receiver_steps.proofs.Held.{held, holds-again, limits-again, lent, lent-again}
 use Rattle.receiver.proofs.Views.{Arrived, judges}
 
 pub begins-holds : (t : Transfer) (base end : ℕ) → limitsHold t ≡ true → base ≤ end → end ≤ t .count → holdsOf (beginning t base end) ≡ true

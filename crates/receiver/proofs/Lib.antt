@@ -1,5 +1,3 @@
-pub mod Held
-pub mod Judged
 pub mod Buffer
 pub mod Views
 pub mod Kept

@@ -11,34 +11,37 @@ use Rattle.status.specs.Answer.{Word, Said, Left, _saying_}
 use Rattle.status.proofs.Choose.{in-true}
 use Rattle.status.proofs.Opened.{open-entry, ended-entry}
 use Rattle.status.proofs.Leaves.{Leaves, leaves-unless, picked, After}
-use Rattle.receiver.specs.Record.{holdsOf, failedOf, lossOf}
-use Rattle.receiver.specs.DataFrame.{lentOf, verdictOf, waitingOf, storedOf, storedBy, takenOf, arrivalOf, dataStepOf}
-use Rattle.receiver.specs.declared.types.Receiver.{Receiver}
-use Rattle.receiver.specs.declared.types.Verdict.{Verdict}
-use Rattle.receiver.specs.declared.types.Verdict.the-variants.{Discard, Skip, Fail, Store}
-use Rattle.receiver.proofs.Held.{Held, held, lent}
-use Rattle.receiver.proofs.Judged.{Misplaced, Inside, OutOfStep, InStep, Judged, judged}
+use Rattle.receiver_steps.specs.Record.{holdsOf, failedOf, lentOf}
+use Rattle.receiver_steps.proofs.Ended.{failed-ended}
+use Rattle.receiver.specs.Record.{lossOf}
+use Rattle.receiver_steps.specs.DataFrame.{dispositionOf, waitingOf, storedOf, storedBy, takenOf, dataStepOf}
+use Rattle.receiver.specs.DataFrame.{arrivalOf}
+use Rattle.receiver_steps.specs.declared.types.Receiver.{Receiver}
+use Rattle.receiver_steps.specs.declared.types.DataDisposition.{DataDisposition}
+use Rattle.receiver_steps.specs.declared.types.DataDisposition.the-variants.{Discard, Skip, Fail, Store}
+use Rattle.receiver_steps.proofs.Held.{Held, held, lent}
+use Rattle.receiver_steps.proofs.Judged.{Misplaced, Inside, OutOfStep, InStep, Judged, judged}
 
 -- a frame at a port that neither 1 nor 2 refuses
 pub data Arrived (r : Receiver) (offset : ℕ) (cdp : Bool) (n : ℕ) : Left Receiver → Type 0 where
-  full : r .filled ≡ r .end → Arrived r offset cdp n (r saying Said.told Word.discarded)
+  full : r .filled ≡ r .end → Arrived r offset cdp n (r saying Said.word Word.discarded)
   misplaced : (r .filled ≡ r .end → ⊥) → Misplaced r offset cdp → Arrived r offset cdp n (failedOf r 20)
   long : (r .filled ≡ r .end → ⊥) → r .end < offset + n → Arrived r offset cdp n (failedOf r 21)
   empty : (r .filled ≡ r .end → ⊥) → n ≡ 0 → Arrived r offset cdp n (failedOf r 22)
-  skipped : Inside r offset n → OutOfStep r offset cdp → Arrived r offset cdp n (waitingOf r saying Said.told Word.discarded)
+  skipped : Inside r offset n → OutOfStep r offset cdp → Arrived r offset cdp n (waitingOf r saying Said.word Word.discarded)
   stored : Inside r offset n → InStep r offset cdp → Arrived r offset cdp n (storedBy r offset n)
 
 -- those of them that are no failure
 pub data Kept (r : Receiver) (offset : ℕ) (cdp : Bool) (n : ℕ) : Left Receiver → Type 0 where
-  full : r .filled ≡ r .end → Kept r offset cdp n (r saying Said.told Word.discarded)
-  skipped : Inside r offset n → OutOfStep r offset cdp → Kept r offset cdp n (waitingOf r saying Said.told Word.discarded)
+  full : r .filled ≡ r .end → Kept r offset cdp n (r saying Said.word Word.discarded)
+  skipped : Inside r offset n → OutOfStep r offset cdp → Kept r offset cdp n (waitingOf r saying Said.word Word.discarded)
   stored : Inside r offset n → InStep r offset cdp → Kept r offset cdp n (storedBy r offset n)
 
 abbrev pub Ended : Receiver → Type 0
 Ended r = r .ended ≡ true
 
 module _ (r : Receiver) (offset : ℕ) (cdp : Bool) (n : ℕ) where
-  taken : {v : Verdict} → Judged r offset cdp n v → Arrived r offset cdp n (takenOf v r offset n)
+  taken : {v : DataDisposition} → Judged r offset cdp n v → Arrived r offset cdp n (takenOf v r offset n)
   taken (Judged.full p) = Arrived.full p
   taken (Judged.misplaced o p) = Arrived.misplaced o p
   taken (Judged.long o p) = Arrived.long o p
@@ -46,7 +49,7 @@ module _ (r : Receiver) (offset : ℕ) (cdp : Bool) (n : ℕ) where
   taken (Judged.skipped i s) = Arrived.skipped i s
   taken (Judged.stored i s) = Arrived.stored i s
 
-  pub judges : Arrived r offset cdp n (takenOf (verdictOf r offset cdp n) r offset n)
+  pub judges : Arrived r offset cdp n (takenOf (dispositionOf r offset cdp n) r offset n)
   judges = taken (judged r offset cdp n)
 
   -- at a port that neither 1 nor 2 refuses an arrival is the step behind them
@@ -82,9 +85,9 @@ module _ (r : Receiver) (offset : ℕ) (cdp : Bool) (n : ℕ) where
     where
       go : {x : Left Receiver} → Arrived r offset cdp n x → Leaves Ended r x
       go (Arrived.full p) = tt
-      go (Arrived.misplaced o p) = refl
-      go (Arrived.long o p) = refl
-      go (Arrived.empty o p) = refl
+      go (Arrived.misplaced o p) = failed-ended r 20
+      go (Arrived.long o p) = failed-ended r 21
+      go (Arrived.empty o p) = failed-ended r 22
       go (Arrived.skipped i s) = tt
       go (Arrived.stored i s) = picked (λ (a : Said). After Ended a r (storedOf r offset n)) (eqb (max (r .filled) (offset + n)) (r .end)) Said.received Said.stored tt tt
 
@@ -94,7 +97,7 @@ module _ (r : Receiver) (offset : ℕ) (cdp : Bool) (n : ℕ) where
   ended-refuses m e = ended-entry (lentOf r m) (r .ended) r _ e
 
 pub loss-leaves : (r : Receiver) → Leaves Ended r (lossOf r)
-loss-leaves r = leaves-unless Ended r (entryOf (holdsOf r) (r .ended)) _ refl
+loss-leaves r = leaves-unless Ended r (entryOf (holdsOf r) (r .ended)) _ (failed-ended r 31)
 
 pub loss-ended : (r : Receiver) → r .ended ≡ true → (k : ℕ) × (lossOf r ≡ (r saying Said.refused k))
 loss-ended r e = ended-entry (holdsOf r) (r .ended) r _ e

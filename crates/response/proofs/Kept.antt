@@ -16,7 +16,7 @@ use Rattle.transfer.specs.Limits.{limitsHold}
 use Rattle.transfer.specs.declared.Transfer.{Transfer}
 use Rattle.response.specs.Record.{mostOf, tests, holdsOf, startOf}
 use Rattle.response.specs.Transmit.{lentOf, handsOf, nextOf}
-use Rattle.response.specs.Answer.{failedOf, retriedOf, retryOf, answersOf, ackOf, nakOf, timeoutOf, cutOf, lossOf}
+use Rattle.response.specs.Confirmation.{failedOf, retriedOf, retryOf, confirmsOf, ackOf, nakOf, timeoutOf, cutOf, lossOf}
 use Rattle.response.specs.declared.types.Responder.{Responder}
 use Rattle.response.proofs.Held.{Held, held, holds-again}
 
@@ -31,7 +31,7 @@ module _ (x : Responder) (h : holdsOf x ≡ true) where
   unfolding retryOf holdsOf tests pick
   retry-kept c = go (ltb (x .retries) (mostOf x)) refl
     where
-      go : (t : Bool) → ltb (x .retries) (mostOf x) ≡ t → Kept (pick t (retriedOf x saying Said.told Word.retry) (failedOf x c))
+      go : (t : Bool) → ltb (x .retries) (mostOf x) ≡ t → Kept (pick t (retriedOf x saying Said.word Word.retry) (failedOf x c))
       go true e = let m = held x h .marks in holds-again (retriedOf x) (held x h .limits-hold) (omega (arith, ltb-true))
       go false e = h
 
@@ -41,13 +41,13 @@ module _ (x : Responder) (h : holdsOf x ≡ true) where
 
   pub ack-kept : Kept (ackOf x)
   unfolding holdsOf tests
-  ack-kept = unless-gives Kept (answersOf x) x _ (λ n. h) h
+  ack-kept = unless-gives Kept (confirmsOf x) x _ (λ n. h) h
 
   pub nak-kept : Kept (nakOf x)
-  nak-kept = unless-gives Kept (answersOf x) x _ (λ n. h) (retry-kept 28)
+  nak-kept = unless-gives Kept (confirmsOf x) x _ (λ n. h) (retry-kept 28)
 
   pub timeout-kept : Kept (timeoutOf x)
-  timeout-kept = unless-gives Kept (answersOf x) x _ (λ n. h) (retry-kept 29)
+  timeout-kept = unless-gives Kept (confirmsOf x) x _ (λ n. h) (retry-kept 29)
 
   pub cut-kept : Kept (cutOf x)
   cut-kept = unless-gives Kept (entryOf (holdsOf x) (x .ended)) x _ (λ n. h) (picked Kept _ _ _ (retry-kept 30) h)

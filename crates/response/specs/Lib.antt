@@ -1,4 +1,4 @@
 pub mod Fields
 pub mod Record
 pub mod Transmit
-pub mod Answer
+pub mod Confirmation

@@ -6,7 +6,7 @@ use lib.Dec.{leb}
 use Rattle.status.specs.Pick.{all, _with_}
 use Rattle.status.specs.Number.{refusalNumber}
 use Rattle.status.specs.Answer.{says, Left, _saying_}
-use Rattle.status.specs.Outcome.{Outcome, granted}
+use Rattle.status.specs.Result.{Result, granted}
 use Rattle.transfer.specs.Limits.{limitsHold}
 use Rattle.transfer.specs.declared.Transfer.{Transfer}
 use Rattle.response.specs.Fields.{unanswered≔, ended≔}
@@ -36,13 +36,13 @@ startOf t len = record { transfer = t; len = len; unanswered = false; retries = 
 abbrev pub setUpTests : Transfer → ℕ → List Bool
 setUpTests t len = limitsHold t ∷ leb 24 len ∷ leb len 1_024 ∷ []
 
-abbrev pub setUpOf : Transfer → ℕ → Outcome Responder
+abbrev pub setUpOf : Transfer → ℕ → Result Responder
 setUpOf t len = granted (all (setUpTests t len)) (startOf t len)
 
 -- what the set-up answers: the record, or a number
-abbrev pub made : Setup → Outcome Responder
-made (Ready x) = Outcome.value x
-made (Refused why) = Outcome.number (refusalNumber why)
+abbrev pub made : Setup → Result Responder
+made (Ready x) = Result.value x
+made (Refused why) = Result.number (refusalNumber why)
 
 -- what an event leaves and answers
 abbrev pub stepped : Stepped → Left Responder

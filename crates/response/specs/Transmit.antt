@@ -25,7 +25,7 @@ lentOf x n = all (lentTests x n)
 unfoldable pub responseHeader : Responder → Header
 responseHeader x =
     record {
-      kind = RESPONSE;
+      frametype = RESPONSE;
       dest = x .transfer .remote;
       source = x .transfer .local;
       flags = record { tlr = 0; retry = false; retransmit = ltb 0 (x .retries); cdp = false };
@@ -44,6 +44,6 @@ sentOf x = x with unanswered≔ true
 abbrev pub handsOf : Responder → List ℕ → List ℕ → Left Responder
 handsOf x iu out = hands x (sentOf x) (frameOf x iu) out
 
--- "wait" while its answer is due
+-- "wait" while its confirmation is due
 unfoldable pub nextOf : Responder → List ℕ → List ℕ → Left Responder
-nextOf x iu out = unless (entryOf (lentOf x (length iu)) (x .ended)) x (pick (x .unanswered) (x saying Said.told Word.wait) (handsOf x iu out))
+nextOf x iu out = unless (entryOf (lentOf x (length iu)) (x .ended)) x (pick (x .unanswered) (x saying Said.word Word.wait) (handsOf x iu out))

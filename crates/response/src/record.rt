@@ -19,7 +19,7 @@ pub(crate) fn most(x: Responder) -> u32
 }
 
 // Number 1 does not apply: limits, length and retries are in order.
-pub fn holds(x: Responder) -> bool
+pub(crate) fn holds(x: Responder) -> bool
     ensures { λ r. ⌜ r ≡ holdsOf x ⌝ }
 {
     let t = x.transfer;

@@ -29,7 +29,7 @@ fn header(x: Responder) -> Header
 {
     let t = x.transfer;
     Header {
-        kind: frame::RESPONSE,
+        frametype: frame::RESPONSE,
         dest: t.remote,
         source: t.local,
         flags: Flags {

@@ -9,7 +9,7 @@ pub struct Responder {
     // the length of the IU that it was set up with
     pub len: u32,
     pub retries: u32,
-    // its answer is due
+    // its confirmation is due
     pub unanswered: bool,
     pub ended: bool,
 }

@@ -6,14 +6,16 @@ use mathlib.Core.Path.{_≡_, refl}
 use lib.ListN.{length}
 use Rattle.frame.specs.Write.{hands}
 use Rattle.status.specs.Pick.{pick}
-use Rattle.status.specs.Entry.{entryOf, answerableOf}
+use Rattle.status.specs.Entry.{entryOf, confirmableOf}
 use Rattle.status.specs.Answer.{Said, Left, _saying_}
-use Rattle.status.proofs.Opened.{differ, ended-entry, ended-answerable}
+use Rattle.status.proofs.Opened.{differ, ended-entry, ended-confirmable}
 use Rattle.status.proofs.Leaves.{Leaves, leaves-pick, leaves-unless, unless-gives}
-use Rattle.sender.specs.Record.{holdsOf}
-use Rattle.sender.specs.Transmit.{lentOf, handsOf, nextOf}
-use Rattle.sender.specs.Answer.{loweredOf, retryOf, advanceOf, settleOf, causeOf, answersOf, ackOf, nakOf, timeoutOf, cutOf, lossOf}
-use Rattle.sender.specs.declared.types.Sender.{Sender}
+use Rattle.sender_steps.specs.Record.{holdsOf, lentOf}
+use Rattle.sender_steps.proofs.Ended.{failed-ended}
+use Rattle.sender.specs.Transmit.{handsOf, nextOf}
+use Rattle.sender_steps.specs.Confirmation.{loweredOf, retryOf, advanceOf, settleOf, causeOf}
+use Rattle.sender.specs.Confirmation.{confirmsOf, ackOf, nakOf, timeoutOf, cutOf, lossOf}
+use Rattle.sender_steps.specs.declared.types.Sender.{Sender}
 use Rattle.sender.proofs.Views.{Retried, Settled, settled}
 
 abbrev pub Ended : Sender → Type 0
@@ -22,7 +24,7 @@ Ended s = s .ended ≡ true
 module _ (s : Sender) where
   leaves-retry : (t : Sender) (c : ℕ) → Leaves Ended s (retryOf t c)
   unfolding retryOf
-  leaves-retry t c = leaves-pick Ended s _ _ _ tt refl
+  leaves-retry t c = leaves-pick Ended s _ _ _ tt (failed-ended t c)
 
   leaves-settle : (t : Sender) → Leaves Ended s (settleOf t)
   unfolding settleOf advanceOf
@@ -33,23 +35,23 @@ module _ (s : Sender) where
   next-leaves d out = leaves-unless Ended s (entryOf (lentOf s (length d)) (s .ended)) _ (leaves-pick Ended s _ _ _ refl (leaves-pick Ended s _ _ _ tt refl))
 
   pub ack-leaves : Leaves Ended s (ackOf s)
-  ack-leaves = leaves-unless Ended s (answersOf s) _ (leaves-settle (loweredOf s (s .nak)))
+  ack-leaves = leaves-unless Ended s (confirmsOf s) _ (leaves-settle (loweredOf s (s .nak)))
 
   pub nak-leaves : Leaves Ended s (nakOf s)
-  nak-leaves = leaves-unless Ended s (answersOf s) _ (leaves-settle (loweredOf s true))
+  nak-leaves = leaves-unless Ended s (confirmsOf s) _ (leaves-settle (loweredOf s true))
 
   pub timeout-leaves : Leaves Ended s (timeoutOf s)
-  timeout-leaves = leaves-unless Ended s (answersOf s) _ (leaves-retry s (causeOf s 29))
+  timeout-leaves = leaves-unless Ended s (confirmsOf s) _ (leaves-retry s (causeOf s 29))
 
   pub cut-leaves : Leaves Ended s (cutOf s)
   cut-leaves = leaves-unless Ended s (entryOf (holdsOf s) (s .ended)) _ (leaves-pick Ended s _ _ _ refl (leaves-retry s (causeOf s 30)))
 
   pub loss-leaves : Leaves Ended s (lossOf s)
-  loss-leaves = leaves-unless Ended s (entryOf (holdsOf s) (s .ended)) _ refl
+  loss-leaves = leaves-unless Ended s (entryOf (holdsOf s) (s .ended)) _ (failed-ended s 31)
 
   -- a read's delivery ends the record, a write burst's ends nothing
   pub delivery-ends : (n : ℕ) → ackOf s .says ≡ Said.delivered n → ackOf s .left .ended ≡ not (s .transfer .write)
-  delivery-ends n = unless-gives (λ (x : Left Sender). x .says ≡ Said.delivered n → x .left .ended ≡ not (s .transfer .write)) (answersOf s) s _ (λ m e. differ (cc)) (go (settled (loweredOf s (s .nak))))
+  delivery-ends n = unless-gives (λ (x : Left Sender). x .says ≡ Said.delivered n → x .left .ended ≡ not (s .transfer .write)) (confirmsOf s) s _ (λ m e. differ (cc)) (go (settled (loweredOf s (s .nak))))
     where
       go : {x : Left Sender} → Settled (loweredOf s (s .nak)) x → x .says ≡ Said.delivered n → x .left .ended ≡ not (s .transfer .write)
       go (Settled.more m) e = differ (cc)
@@ -65,16 +67,16 @@ module _ (s : Sender) where
     next-ended d out = ended-entry _ _ s _ e
 
     pub ack-ended : (n : ℕ) × (ackOf s ≡ (s saying Said.refused n))
-    unfolding answersOf
-    ack-ended = ended-answerable _ _ _ s _ e
+    unfolding confirmsOf
+    ack-ended = ended-confirmable _ _ _ s _ e
 
     pub nak-ended : (n : ℕ) × (nakOf s ≡ (s saying Said.refused n))
-    unfolding answersOf
-    nak-ended = ended-answerable _ _ _ s _ e
+    unfolding confirmsOf
+    nak-ended = ended-confirmable _ _ _ s _ e
 
     pub timeout-ended : (n : ℕ) × (timeoutOf s ≡ (s saying Said.refused n))
-    unfolding answersOf
-    timeout-ended = ended-answerable _ _ _ s _ e
+    unfolding confirmsOf
+    timeout-ended = ended-confirmable _ _ _ s _ e
 
     pub cut-ended : (n : ℕ) × (cutOf s ≡ (s saying Said.refused n))
     cut-ended = ended-entry _ _ s _ e

@@ -10,17 +10,19 @@ use Rattle.frame.specs.Write.{hands}
 use Rattle.status.specs.Pick.{pick, all}
 use Rattle.status.specs.Entry.{entryOf}
 use Rattle.status.specs.Answer.{Word, Said, Left, _saying_}
-use Rattle.status.specs.Outcome.{Outcome, granted}
+use Rattle.status.specs.Result.{Result, granted}
 use Rattle.status.proofs.Leaves.{picked, unless-gives}
 use Rattle.transfer.specs.Limits.{limitsHold}
 use Rattle.transfer.specs.declared.Transfer.{Transfer}
-use Rattle.sender.specs.Record.{holdsOf, beginning}
-use Rattle.sender.specs.Transmit.{lentOf, waitsOf, lesser, frameOf, sentOf, handsOf, nextOf}
-use Rattle.sender.specs.Answer.{loweredOf, endedOf, retriedOf, restartOf, movedOf, deliveredOf, settleOf, retryOf, causeOf, answersOf, ackOf, nakOf, timeoutOf, cutOf, lossOf}
-use Rattle.sender.specs.declared.types.Burst.{Burst}
-use Rattle.sender.specs.declared.types.Sender.{Sender}
-use Rattle.sender.proofs.Held.{Marks, Held, held, holds-again}
-use Rattle.sender.proofs.Due.{Due, due}
+use Rattle.sender_steps.specs.Record.{holdsOf, beginning, lentOf}
+use Rattle.sender_steps.specs.Transmit.{waitsOf, lesser, frameOf, sentOf}
+use Rattle.sender.specs.Transmit.{handsOf, nextOf}
+use Rattle.sender_steps.specs.Confirmation.{loweredOf, endedOf, retriedOf, restartOf, movedOf, deliveredOf, settleOf, retryOf, causeOf}
+use Rattle.sender.specs.Confirmation.{confirmsOf, ackOf, nakOf, timeoutOf, cutOf, lossOf}
+use Rattle.sender_steps.specs.declared.types.Burst.{Burst}
+use Rattle.sender_steps.specs.declared.types.Sender.{Sender}
+use Rattle.sender_steps.proofs.Held.{Marks, Held, held, holds-again}
+use Rattle.sender_steps.proofs.Due.{Due, due}
 use Rattle.sender.proofs.Views.{Retried, retried, Settled, settled}
 
 pub begins-holds : (t : Transfer) (b : Burst) → limitsHold t ≡ true → b .base ≤ b .end → b .end ≤ t .count → b .limit ≤ t .limit → holdsOf (beginning t b) ≡ true
@@ -81,18 +83,18 @@ module _ (s : Sender) (h : holdsOf s ≡ true) where
   unfolding nextOf hands pick
   next-kept d out f = unless-gives Kept (entryOf (lentOf s (length d)) (s .ended)) s _ (λ n. h) (go (waitsOf s) refl)
     where
-      go : (t : Bool) → waitsOf s ≡ t → Kept (pick t (s saying Said.told Word.wait) (handsOf s d out))
+      go : (t : Bool) → waitsOf s ≡ t → Kept (pick t (s saying Said.word Word.wait) (handsOf s d out))
       go true e = h
       go false e = picked Kept (leb (length (frameOf s d)) (length out)) (sentOf s saying Said.frame (length (frameOf s d))) (s saying Said.refused 3) (sent-holds s (held s h) (due s e) f) h
 
   pub ack-kept : holdsOf (ackOf s .left) ≡ true
-  ack-kept = unless-gives Kept (answersOf s) s _ (λ n. h) (settle-holds (loweredOf s (s .nak)) (lowered-holds s (held s h) (s .nak)))
+  ack-kept = unless-gives Kept (confirmsOf s) s _ (λ n. h) (settle-holds (loweredOf s (s .nak)) (lowered-holds s (held s h) (s .nak)))
 
   pub nak-kept : holdsOf (nakOf s .left) ≡ true
-  nak-kept = unless-gives Kept (answersOf s) s _ (λ n. h) (settle-holds (loweredOf s true) (lowered-holds s (held s h) true))
+  nak-kept = unless-gives Kept (confirmsOf s) s _ (λ n. h) (settle-holds (loweredOf s true) (lowered-holds s (held s h) true))
 
   pub timeout-kept : holdsOf (timeoutOf s .left) ≡ true
-  timeout-kept = unless-gives Kept (answersOf s) s _ (λ n. h) (retry-holds s (held s h) (retried s (causeOf s 29)))
+  timeout-kept = unless-gives Kept (confirmsOf s) s _ (λ n. h) (retry-holds s (held s h) (retried s (causeOf s 29)))
 
   pub cut-kept : holdsOf (cutOf s .left) ≡ true
   cut-kept = unless-gives Kept (entryOf (holdsOf s) (s .ended)) s _ (λ n. h) (picked Kept _ _ _ h (retry-holds s (held s h) (retried s (causeOf s 30))))

@@ -1,5 +1,3 @@
-pub mod Held
-pub mod Due
 pub mod Counting
 pub mod Steps
 pub mod Next

@@ -12,9 +12,11 @@ use Rattle.status.specs.declared.entry.Entry.the-variants.{Open, Closed}
 use Rattle.status.specs.declared.words.Refusal.{Refusal}
 use Rattle.frame.specs.Write.{handing}
 use Rattle.frame.proofs.Hands as frame
-use Rattle.sender.specs.Transmit.{lentOf, waitsOf, frameOf, handsOf, nextOf}
-use Rattle.sender.specs.Count.{Counts}
-use Rattle.sender.specs.declared.types.Sender.{Sender}
+use Rattle.sender_steps.specs.Record.{lentOf}
+use Rattle.sender_steps.specs.Transmit.{waitsOf, frameOf}
+use Rattle.sender.specs.Transmit.{handsOf, nextOf}
+use Rattle.sender_steps.specs.Count.{Counts}
+use Rattle.sender_steps.specs.declared.types.Sender.{Sender}
 use Rattle.sender.proofs.Counting.{next-counts}
 
 module _ (s : Sender) (d out : List ℕ) where
@@ -22,7 +24,7 @@ module _ (s : Sender) (d out : List ℕ) where
   unfolding nextOf
   next-closed why e = rw e refl
 
-  pub next-waits : entryOf (lentOf s (length d)) (s .ended) ≡ Open → waitsOf s ≡ true → nextOf s d out ≡ (s saying Said.told Word.wait)
+  pub next-waits : entryOf (lentOf s (length d)) (s .ended) ≡ Open → waitsOf s ≡ true → nextOf s d out ≡ (s saying Said.word Word.wait)
   unfolding nextOf pick
   next-waits e w = rw (e, w) refl
 

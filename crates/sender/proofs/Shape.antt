@@ -13,12 +13,14 @@ use Rattle.status.specs.Answer.{Left, unless}
 use Rattle.status.specs.declared.entry.Entry.{Entry}
 use Rattle.status.proofs.Leaves.{picked, unless-gives}
 use Rattle.transfer.specs.declared.Transfer.{Transfer}
-use Rattle.sender.specs.Record.{holdsOf}
-use Rattle.sender.specs.Transmit.{lentOf, sentOf, handsOf, nextOf}
-use Rattle.sender.specs.Answer.{loweredOf, restartOf, retryOf, advanceOf, settleOf, causeOf, answersOf, ackOf, nakOf, timeoutOf, cutOf, lossOf}
-use Rattle.sender.specs.declared.types.Burst.{Burst}
-use Rattle.sender.specs.declared.types.Sender.{Sender}
-use Rattle.sender.proofs.Held.{Held}
+use Rattle.sender_steps.specs.Record.{holdsOf, lentOf}
+use Rattle.sender_steps.specs.Transmit.{sentOf}
+use Rattle.sender.specs.Transmit.{handsOf, nextOf}
+use Rattle.sender_steps.specs.Confirmation.{loweredOf, restartOf, retryOf, advanceOf, settleOf, causeOf}
+use Rattle.sender.specs.Confirmation.{confirmsOf, ackOf, nakOf, timeoutOf, cutOf, lossOf}
+use Rattle.sender_steps.specs.declared.types.Burst.{Burst}
+use Rattle.sender_steps.specs.declared.types.Sender.{Sender}
+use Rattle.sender_steps.proofs.Held.{Held}
 
 -- the next offset is at most n then
 pub record Shape (s : Sender) (n : ℕ) (x : Left Sender) : Type 0 where
@@ -60,13 +62,13 @@ module _ (s : Sender) (h : Held s) where
       (shape-pick (s .burst .end) from _ _ _ (record { transfer = refl; burst = refl; next = omega arith }) (same (s .burst .end) from refl refl refl)))
 
   pub ack-shape : Shape s (s .next) (ackOf s)
-  ack-shape = let q = le-refl (s .next) in shape-unless (s .next) q (answersOf s) _ (shape-settle (s .next) q (loweredOf s (s .nak)) refl refl refl refl refl)
+  ack-shape = let q = le-refl (s .next) in shape-unless (s .next) q (confirmsOf s) _ (shape-settle (s .next) q (loweredOf s (s .nak)) refl refl refl refl refl)
 
   pub nak-shape : Shape s (s .next) (nakOf s)
-  nak-shape = let q = le-refl (s .next) in shape-unless (s .next) q (answersOf s) _ (shape-settle (s .next) q (loweredOf s true) refl refl refl refl refl)
+  nak-shape = let q = le-refl (s .next) in shape-unless (s .next) q (confirmsOf s) _ (shape-settle (s .next) q (loweredOf s true) refl refl refl refl refl)
 
   pub timeout-shape : Shape s (s .next) (timeoutOf s)
-  timeout-shape = let q = le-refl (s .next) in shape-unless (s .next) q (answersOf s) _ (shape-retry (s .next) q s refl refl refl refl refl (causeOf s 29))
+  timeout-shape = let q = le-refl (s .next) in shape-unless (s .next) q (confirmsOf s) _ (shape-retry (s .next) q s refl refl refl refl refl (causeOf s 29))
 
   pub cut-shape : Shape s (s .next) (cutOf s)
   cut-shape =

@@ -11,21 +11,12 @@ use Rattle.status.proofs.Choose.{each}
 use Rattle.status.proofs.Opened.{open-entry}
 use Rattle.frame.specs.Write.{writable}
 use Rattle.frame.proofs.Hands.{hands-answered}
-use Rattle.sender.specs.Transmit.{lentOf, dataHeader, partOf, frameOf, sentOf, nextOf}
-use Rattle.sender.specs.Step.{fitTests, fitsOf, writesOf, frameStepOf}
-use Rattle.sender.specs.declared.types.Sender.{Sender}
-use Rattle.sender.proofs.Held.{held, lent-holds}
-use Rattle.sender.proofs.Due.{part-length, can-write}
-
--- what the step tests, as bounds
-pub record Fits (s : Sender) (n : ℕ) : Type 0 where
-  pub next-most : s .next ≤ s .burst .end
-  pub end-most : s .burst .end ≤ n
-  pub frames-most : s .frames < 2 ^ 60
-
-pub fits : (s : Sender) (n : ℕ) → fitsOf s n ≡ true → Fits s n
-unfolding fitsOf
-fits s n e = let h = each (fitTests s n) e in omega (arith, leb-true, ltb-true)
+use Rattle.sender_steps.specs.Record.{lentOf}
+use Rattle.sender_steps.specs.Transmit.{dataHeader, partOf, frameOf, sentOf, fitTests, fitsOf, writesOf, frameStepOf}
+use Rattle.sender.specs.Transmit.{nextOf}
+use Rattle.sender_steps.specs.declared.types.Sender.{Sender}
+use Rattle.sender_steps.proofs.Held.{held, lent-holds}
+use Rattle.sender_steps.proofs.Due.{part-length, can-write}
 
 module _ (s : Sender) (d out : List ℕ) (e : lentOf s (length d) ≡ true) where
   lent-fits : fitsOf s (length d) ≡ true

@@ -10,16 +10,18 @@ use lib.ListN.{length}
 use borrow.Author.Tests.{leb-true, eqb-true, eqb-false, ltb-true, ltb-false, ne-eqb}
 use Rattle.frame.specs.Write.{hands as due-frame}
 use Rattle.status.specs.Pick.{pick}
-use Rattle.status.specs.Entry.{entryOf, answerableOf}
+use Rattle.status.specs.Entry.{entryOf, confirmableOf}
 use Rattle.status.specs.Answer.{Word, Said, Left, _saying_}
 use Rattle.status.specs.declared.entry.Entry.the-variants.{Open, Closed}
 use Rattle.status.specs.declared.words.Refusal.the-variants.{AnswerWithoutFrame}
-use Rattle.status.proofs.Opened.{open-entry, open-answerable, answered}
-use Rattle.sender.specs.Record.{holdsOf}
-use Rattle.sender.specs.Transmit.{lentOf, waitsOf, frameOf, sentOf, handsOf, nextOf}
-use Rattle.sender.specs.Answer.{loweredOf, failedOf, retriedOf, retryOf, movedOf, deliveredOf, advanceOf, settleOf, causeOf, answersOf, ackOf, nakOf, timeoutOf, cutOf}
-use Rattle.sender.specs.declared.types.Sender.{Sender}
-use Rattle.sender.proofs.Due.{Due, due}
+use Rattle.status.proofs.Opened.{open-entry, open-confirmable, confirmed}
+use Rattle.sender_steps.specs.Record.{holdsOf, lentOf}
+use Rattle.sender_steps.specs.Transmit.{waitsOf, frameOf, sentOf}
+use Rattle.sender.specs.Transmit.{handsOf, nextOf}
+use Rattle.sender_steps.specs.Confirmation.{loweredOf, failedOf, retriedOf, retryOf, movedOf, deliveredOf, advanceOf, settleOf, causeOf}
+use Rattle.sender.specs.Confirmation.{confirmsOf, ackOf, nakOf, timeoutOf, cutOf}
+use Rattle.sender_steps.specs.declared.types.Sender.{Sender}
+use Rattle.sender_steps.proofs.Due.{Due, due}
 use Rattle.sender.proofs.Next.{next-waits, next-due}
 
 -- ── a frame asked for ──
@@ -27,7 +29,7 @@ abbrev Waits : Sender → Type 0
 Waits s = (s .nak ≡ true) ⊎ ((s .transfer .window ≤ s .unanswered) ⊎ (s .next ≡ s .burst .end))
 
 pub data Asked (s : Sender) (d out : List ℕ) : Left Sender → Type 0 where
-  waits : Waits s → Asked s d out (s saying Said.told Word.wait)
+  waits : Waits s → Asked s d out (s saying Said.word Word.wait)
   short : Asked s d out (s saying Said.refused 3)
   hands : Due s → Asked s d out (sentOf s saying Said.frame (length (frameOf s d)))
 
@@ -55,28 +57,28 @@ module _ (s : Sender) (d out : List ℕ) (l : lentOf s (length d) ≡ true) (o :
 
 -- ── an answer, once the count is lowered ──
 pub data Retried (s : Sender) (c : ℕ) : Left Sender → Type 0 where
-  again : s .retries < s .burst .limit → Retried s c (retriedOf s saying Said.told Word.retry)
+  again : s .retries < s .burst .limit → Retried s c (retriedOf s saying Said.word Word.retry)
   spent : s .burst .limit ≤ s .retries → Retried s c (failedOf s c)
 
 pub retried : (s : Sender) (c : ℕ) → Retried s c (retryOf s c)
 unfolding retryOf pick
 retried s c = go (ltb (s .retries) (s .burst .limit)) refl
   where
-    go : (t : Bool) → ltb (s .retries) (s .burst .limit) ≡ t → Retried s c (pick t (retriedOf s saying Said.told Word.retry) (failedOf s c))
+    go : (t : Bool) → ltb (s .retries) (s .burst .limit) ≡ t → Retried s c (pick t (retriedOf s saying Said.word Word.retry) (failedOf s c))
     go true e = again (ltb-true _ _ e)
     go false e = spent (ltb-false _ _ e)
 
 pub data Settled (s : Sender) : Left Sender → Type 0 where
-  more : (s .unanswered ≡ 0 → ⊥) → Settled s (s saying Said.told Word.taken)
+  more : (s .unanswered ≡ 0 → ⊥) → Settled s (s saying Said.word Word.taken)
   retries : s .unanswered ≡ 0 → s .nak ≡ true → {x : Left Sender} → Retried s 28 x → Settled s x
-  moves : s .unanswered ≡ 0 → s .nak ≡ false → (s .next ≡ s .burst .end → ⊥) → Settled s (movedOf s saying Said.told Word.taken)
+  moves : s .unanswered ≡ 0 → s .nak ≡ false → (s .next ≡ s .burst .end → ⊥) → Settled s (movedOf s saying Said.word Word.taken)
   delivers : s .unanswered ≡ 0 → s .nak ≡ false → s .next ≡ s .burst .end → Settled s (deliveredOf s saying Said.delivered (s .frames))
 
 pub settled : (s : Sender) → Settled s (settleOf s)
 unfolding settleOf advanceOf pick
 settled s = go (eqb (s .unanswered) 0) (s .nak) (eqb (s .next) (s .burst .end)) refl refl refl
   where
-    go : (a b c : Bool) → eqb (s .unanswered) 0 ≡ a → s .nak ≡ b → eqb (s .next) (s .burst .end) ≡ c → Settled s (pick a (pick b (retryOf s 28) (pick c (deliveredOf s saying Said.delivered (s .frames)) (movedOf s saying Said.told Word.taken))) (s saying Said.told Word.taken))
+    go : (a b c : Bool) → eqb (s .unanswered) 0 ≡ a → s .nak ≡ b → eqb (s .next) (s .burst .end) ≡ c → Settled s (pick a (pick b (retryOf s 28) (pick c (deliveredOf s saying Said.delivered (s .frames)) (movedOf s saying Said.word Word.taken))) (s saying Said.word Word.taken))
     go false b c p q r = more (eqb-false _ _ p)
     go true true c p q r = retries (eqb-true _ _ p) q (retried s 28)
     go true false true p q r = delivers (eqb-true _ _ p) q (eqb-true _ _ r)
@@ -88,10 +90,10 @@ pub record Answers (s : Sender) : Type 0 where
   pub live : s .ended ≡ false
   pub some : 1 ≤ s .unanswered
 
-pub answers : (s : Sender) → Open ≡ answersOf s → Answers s
-unfolding answersOf
+pub answers : (s : Sender) → Open ≡ confirmsOf s → Answers s
+unfolding confirmsOf
 answers s e =
-    let a = answered _ _ _ e in
+    let a = confirmed _ _ _ e in
     record { holds = a .0; live = a .1; some = go (eqb (s .unanswered) 0) refl (a .2) }
   where
     go : (t : Bool) → eqb (s .unanswered) 0 ≡ t → not t ≡ true → 1 ≤ s .unanswered
@@ -101,9 +103,9 @@ answers s e =
 -- an event that is not refused
 module _ (s : Sender) (h : holdsOf s ≡ true) (o : s .ended ≡ false) where
   module _ (n : s .unanswered ≡ 0 → ⊥) where
-    answers-open : answersOf s ≡ Open
-    unfolding answersOf
-    answers-open = open-answerable _ _ _ h o (rw (ne-eqb _ _ n) refl)
+    answers-open : confirmsOf s ≡ Open
+    unfolding confirmsOf
+    answers-open = open-confirmable _ _ _ h o (rw (ne-eqb _ _ n) refl)
 
     pub acked : Settled (loweredOf s (s .nak)) (ackOf s)
     acked = rw answers-open (settled (loweredOf s (s .nak)))
@@ -120,8 +122,8 @@ module _ (s : Sender) (h : holdsOf s ≡ true) (o : s .ended ≡ false) where
 
   -- with nothing unanswered: 4, and a cut changes nothing
   module _ (z : s .unanswered ≡ 0) where
-    four : answersOf s ≡ Closed AnswerWithoutFrame
-    unfolding answersOf answerableOf pick
+    four : confirmsOf s ≡ Closed AnswerWithoutFrame
+    unfolding confirmsOf confirmableOf pick
     four = rw (open-entry _ _ h o, z) refl
 
     pub ack-4 : ackOf s ≡ (s saying Said.refused 4)
@@ -133,6 +135,6 @@ module _ (s : Sender) (h : holdsOf s ≡ true) (o : s .ended ≡ false) where
     pub timeout-4 : timeoutOf s ≡ (s saying Said.refused 4)
     timeout-4 = rw four refl
 
-    pub cut-0 : cutOf s ≡ (s saying Said.told Word.unchanged)
+    pub cut-0 : cutOf s ≡ (s saying Said.word Word.unchanged)
     unfolding pick
     cut-0 = rw (open-entry _ _ h o, z) refl

@@ -1,6 +1,3 @@
-pub mod Fields
 pub mod Record
 pub mod Transmit
-pub mod Count
-pub mod Answer
-pub mod Step
+pub mod Confirmation

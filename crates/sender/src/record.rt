@@ -1,64 +1,13 @@
-// The record: its set-up, and the tests of number 1.
+// The set-up for a read.
 ghost use mathlib.Core.Path.{_≡_};
-ghost use Rattle.status.specs.Number.{refusalNumber};
-ghost use Rattle.status.specs.Answer.{Said, _saying_};
-ghost use Rattle.sender.specs.Record.{holdsOf, beginning, made, setUpReadOf, stepped};
-use crate::types::Burst;
-use crate::types::Sender;
-use crate::types::Setup;
-use crate::types::Stepped;
-use status::Answer;
+ghost use Rattle.sender.specs.Record.{made, setUpReadOf};
+use crate::types::ReadSetup;
+use sender_steps::Burst;
 use status::Refusal;
 use transfer::Transfer;
 
-// Number 1 does not apply: limits, marks and counts are in order.
-pub fn holds(s: Sender) -> bool
-    ensures { λ r. ⌜ r ≡ holdsOf s ⌝ }
-{
-    let t = s.transfer;
-    let b = s.burst;
-    let limits = t.limits_hold();
-    limits
-        & (b.base <= s.balance)
-        & (s.balance <= s.next)
-        & (s.next <= b.end)
-        & (b.end <= t.count)
-        & (s.unanswered <= t.window)
-        & (b.limit <= t.limit)
-        & (s.retries <= b.limit)
-        & (s.frames < 0x1000_0000_0000_0000)
-}
-
-// A refusal leaves the record as it was.
-pub(crate) fn refused(s: Sender, why: Refusal) -> Stepped
-    ensures { λ r. ⌜ stepped r ≡ (s saying Said.refused (refusalNumber why)) ⌝ }
-{
-    Stepped {
-        sender: s,
-        answer: Answer::Refused(why),
-    }
-}
-
-// A burst of which nothing is handed out yet; whether it is in order is tested at the first call.
-pub fn begin(t: Transfer, b: Burst) -> Sender
-    ensures { λ r. ⌜ r ≡ beginning t b ⌝ }
-{
-    Sender {
-        transfer: t,
-        burst: b,
-        next: b.base,
-        balance: b.base,
-        unanswered: 0,
-        nak: false,
-        cdp: false,
-        retries: 0,
-        frames: 0,
-        ended: false,
-    }
-}
-
 // The target's sending end of a read: 1, else the record.
-pub fn set_up_read(t: Transfer) -> Setup
+pub fn set_up_read(t: Transfer) -> ReadSetup
     ensures { λ r. ⌜ made r ≡ setUpReadOf t ⌝ }
 {
     let limits = t.limits_hold();
@@ -69,8 +18,8 @@ pub fn set_up_read(t: Transfer) -> Setup
             tptt: 0,
             limit: t.limit,
         };
-        Setup::Ready(begin(t, b))
+        ReadSetup::Ready(sender_steps::begin(t, b))
     } else {
-        Setup::Refused(Refusal::BadRequest)
+        ReadSetup::Refused(Refusal::BadRequest)
     }
 }

@@ -1,10 +1,11 @@
 pub mod Passed
 pub mod Written
 pub mod Place
+pub mod Walk
 pub mod LentTransfer
 pub mod LentBuffers
 pub mod LentEvent
 pub mod LentBytes
 pub mod LentOut
 pub mod LentTransferLen
-pub mod SenseTold
+pub mod SenseAnswered

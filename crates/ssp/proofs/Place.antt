@@ -8,40 +8,40 @@ use denote.Struct.Struct.{Plains}
 use denote.Struct.Field.{rows}
 use denote.Struct.Declared.{Declared, fields, field}
 use denote.Struct.Laws as LL
-use Rattle.ssp.specs.declared.types.Told.{Told}
-use Rattle.ssp.proofs.types.Told as N
-use Rattle.ssp.proofs.types.Told.Laws as N′
-use Rattle.sender.proofs.types.Sender as sender-type
-use Rattle.sender.proofs.types.Sender.Laws as sender-laws
-use Rattle.ssp.proofs.types.SenderTold as sender-step
-use Rattle.ssp.specs.declared.types.SenderTold.{SenderTold}
-use Rattle.receiver.proofs.types.Receiver as receiver-type
-use Rattle.receiver.proofs.types.Receiver.Laws as receiver-laws
-use Rattle.ssp.proofs.types.ReceiverTold as receiver-step
-use Rattle.ssp.specs.declared.types.ReceiverTold.{ReceiverTold}
+use Rattle.ssp.specs.declared.types.CAnswer.{CAnswer}
+use Rattle.ssp.proofs.types.CAnswer as N
+use Rattle.ssp.proofs.types.CAnswer.Laws as N′
+use Rattle.sender_steps.proofs.types.Sender as sender-type
+use Rattle.sender_steps.proofs.types.Sender.Laws as sender-laws
+use Rattle.ssp.proofs.types.ReadTargetReturn as sender-step
+use Rattle.ssp.specs.declared.types.ReadTargetReturn.{ReadTargetReturn}
+use Rattle.receiver_steps.proofs.types.Receiver as receiver-type
+use Rattle.receiver_steps.proofs.types.Receiver.Laws as receiver-laws
+use Rattle.ssp.proofs.types.ReadInitiatorReturn as receiver-step
+use Rattle.ssp.specs.declared.types.ReadInitiatorReturn.{ReadInitiatorReturn}
 use Rattle.initiator.proofs.types.Writer as writer-type
 use Rattle.initiator.proofs.types.Writer.Laws as writer-laws
-use Rattle.ssp.proofs.types.WriterTold as writer-step
-use Rattle.ssp.specs.declared.types.WriterTold.{WriterTold}
+use Rattle.ssp.proofs.types.WriteInitiatorReturn as writer-step
+use Rattle.ssp.specs.declared.types.WriteInitiatorReturn.{WriteInitiatorReturn}
 use Rattle.target.proofs.types.Target as target-type
 use Rattle.target.proofs.types.Target.Laws as target-laws
-use Rattle.ssp.proofs.types.TargetTold as target-step
-use Rattle.ssp.specs.declared.types.TargetTold.{TargetTold}
+use Rattle.ssp.proofs.types.WriteTargetReturn as target-step
+use Rattle.ssp.specs.declared.types.WriteTargetReturn.{WriteTargetReturn}
 use Rattle.response.proofs.types.Responder as responder-type
 use Rattle.response.proofs.types.Responder.Laws as responder-laws
-use Rattle.ssp.proofs.types.ResponderTold as responder-step
-use Rattle.ssp.specs.declared.types.ResponderTold.{ResponderTold}
+use Rattle.ssp.proofs.types.ResponseReturn as responder-step
+use Rattle.ssp.specs.declared.types.ResponseReturn.{ResponseReturn}
 use Rattle.ssp.proofs.types.Header as header-type
 use Rattle.ssp.proofs.types.Header.Laws as header-laws
-use Rattle.ssp.proofs.types.HeaderTold as header-step
-use Rattle.ssp.specs.declared.types.HeaderTold.{HeaderTold}
+use Rattle.ssp.proofs.types.HeaderReturn as header-step
+use Rattle.ssp.specs.declared.types.HeaderReturn.{HeaderReturn}
 use Rattle.ssp.proofs.types.XferRdy as xfer-rdy-type
 use Rattle.ssp.proofs.types.XferRdy.Laws as xfer-rdy-laws
-use Rattle.ssp.proofs.types.XferRdyTold as xfer-rdy-step
-use Rattle.ssp.specs.declared.types.XferRdyTold.{XferRdyTold}
+use Rattle.ssp.proofs.types.XferRdyReturn as xfer-rdy-step
+use Rattle.ssp.specs.declared.types.XferRdyReturn.{XferRdyReturn}
 
 -- a record and its answer, as the two fields of a struct
-abbrev both : (T : Declared) → T .D → Told → Denots (rows (field T ∷ N.the-field ∷ []))
+abbrev both : (T : Declared) → T .D → CAnswer → Denots (rows (field T ∷ N.the-field ∷ []))
 both T x a = (T .to x, (N.the-type .to a, tt))
 
 -- `the-type`: the record; `Step`: the struct { left, answer } over it, by its name
@@ -53,7 +53,7 @@ pub record Place : Type 2 where
   pub name : Sym
   pub Step : Type 0
   pub left : Step → the-type .D
-  pub answer : Step → Told
+  pub answer : Step → CAnswer
   pub one : (x y : Step) → both the-type (left x) (answer x) ≡ both the-type (left y) (answer y) → x ≡ y
 
 abbrev pub step-type : Place → Declared
@@ -76,7 +76,7 @@ sender = record {
   the-plain = sender-laws.the-plain;
   lowers = sender-laws.lowers;
   name = sender-step.the-type .name;
-  Step = SenderTold;
+  Step = ReadTargetReturn;
   left = λ d. d .left;
   answer = λ d. d .answer;
   one = sender-step.the-type .to-one;
@@ -89,7 +89,7 @@ receiver = record {
   the-plain = receiver-laws.the-plain;
   lowers = receiver-laws.lowers;
   name = receiver-step.the-type .name;
-  Step = ReceiverTold;
+  Step = ReadInitiatorReturn;
   left = λ d. d .left;
   answer = λ d. d .answer;
   one = receiver-step.the-type .to-one;
@@ -102,7 +102,7 @@ writer = record {
   the-plain = writer-laws.the-plain;
   lowers = writer-laws.lowers;
   name = writer-step.the-type .name;
-  Step = WriterTold;
+  Step = WriteInitiatorReturn;
   left = λ d. d .left;
   answer = λ d. d .answer;
   one = writer-step.the-type .to-one;
@@ -115,7 +115,7 @@ target = record {
   the-plain = target-laws.the-plain;
   lowers = target-laws.lowers;
   name = target-step.the-type .name;
-  Step = TargetTold;
+  Step = WriteTargetReturn;
   left = λ d. d .left;
   answer = λ d. d .answer;
   one = target-step.the-type .to-one;
@@ -128,7 +128,7 @@ responder = record {
   the-plain = responder-laws.the-plain;
   lowers = responder-laws.lowers;
   name = responder-step.the-type .name;
-  Step = ResponderTold;
+  Step = ResponseReturn;
   left = λ d. d .left;
   answer = λ d. d .answer;
   one = responder-step.the-type .to-one;
@@ -141,7 +141,7 @@ header = record {
   the-plain = header-laws.the-plain;
   lowers = header-laws.lowers;
   name = header-step.the-type .name;
-  Step = HeaderTold;
+  Step = HeaderReturn;
   left = λ d. d .left;
   answer = λ d. d .answer;
   one = header-step.the-type .to-one;
@@ -154,7 +154,7 @@ xfer-rdy = record {
   the-plain = xfer-rdy-laws.the-plain;
   lowers = xfer-rdy-laws.lowers;
   name = xfer-rdy-step.the-type .name;
-  Step = XferRdyTold;
+  Step = XferRdyReturn;
   left = λ d. d .left;
   answer = λ d. d .answer;
   one = xfer-rdy-step.the-type .to-one;

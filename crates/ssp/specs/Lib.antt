@@ -1,3 +1,4 @@
-pub mod Told
+pub mod CAnswer
 pub mod Frames
 pub mod Sense
+pub mod Version

@@ -1,16 +1,16 @@
 // The answers of all ports as C sees them.
 ghost use mathlib.Core.Path.{_≡_};
 ghost use Rattle.status.specs.Answer.{says};
-ghost use Rattle.ssp.specs.Told.{tells, opens, word, toldBy};
-use crate::types::Told;
+ghost use Rattle.ssp.specs.CAnswer.{answerWith, opens, word, cAnswerOf};
+use crate::types::CAnswer;
 use status::Answer;
 use status::Opened;
 use status::Part;
 
-pub(crate) fn tell(number: u8, what: u8, frames: u64, start: usize, len: usize) -> Told
-    ensures { λ r. ⌜ r ≡ tells number what frames start len ⌝ }
+pub(crate) fn answer_with(number: u8, what: u8, frames: u64, start: usize, len: usize) -> CAnswer
+    ensures { λ r. ⌜ r ≡ answerWith number what frames start len ⌝ }
 {
-    Told {
+    CAnswer {
         number: number,
         what: what,
         kind: 0,
@@ -23,10 +23,10 @@ pub(crate) fn tell(number: u8, what: u8, frames: u64, start: usize, len: usize) 
 }
 
 // A RESPONSE's IU: where it stands, and what it says.
-pub(crate) fn tell_opened(what: u8, frames: u64, iu: Part, o: Opened) -> Told
+pub(crate) fn answer_opened(what: u8, frames: u64, iu: Part, o: Opened) -> CAnswer
     ensures { λ r. ⌜ r ≡ opens what frames (iu .start) (iu .len) o ⌝ }
 {
-    Told {
+    CAnswer {
         number: 0,
         what: what,
         kind: o.kind,
@@ -39,32 +39,43 @@ pub(crate) fn tell_opened(what: u8, frames: u64, iu: Part, o: Opened) -> Told
 }
 
 // A port's answer.
-pub(crate) fn told(a: Answer) -> Told
-    ensures { λ r. ⌜ r ≡ toldBy (says a) ⌝ }
+pub(crate) fn c_answer(a: Answer) -> CAnswer
+    ensures { λ r. ⌜ r ≡ cAnswerOf (says a) ⌝ }
 {
     match a {
-        Answer::Refused(why) => tell(why.number(), Told::REFUSED, 0, 0, 0),
-        Answer::Failed(why, frames) => tell(why.number(), Told::FAILED, frames, 0, 0),
-        Answer::Wait => tell(0, Told::WAIT, 0, 0, 0),
-        Answer::Frame(len) => tell(0, Told::FRAME, 0, 0, len),
-        Answer::Taken => tell(0, Told::TAKEN, 0, 0, 0),
-        Answer::Retry => tell(0, Told::RETRY, 0, 0, 0),
-        Answer::Unchanged => tell(0, Told::UNCHANGED, 0, 0, 0),
-        Answer::Delivered(frames) => tell(0, Told::DELIVERED, frames, 0, 0),
-        Answer::Acknowledged => tell(0, Told::ACKNOWLEDGED, 0, 0, 0),
-        Answer::Discarded => tell(0, Told::DISCARDED, 0, 0, 0),
-        Answer::Stored => tell(0, Told::STORED, 0, 0, 0),
-        Answer::Received => tell(0, Told::RECEIVED, 0, 0, 0),
-        Answer::NextBurst => tell(0, Told::NEXT_BURST, 0, 0, 0),
-        Answer::NextBurstDelivers(frames) => tell(0, Told::NEXT_BURST_DELIVERS, frames, 0, 0),
-        Answer::Repeated => tell(0, Told::REPEATED, 0, 0, 0),
-        Answer::Response { iu, opened, frames } => tell_opened(Told::RESPONSE, frames, iu, opened),
+        Answer::Refused(why) => answer_with(why.number(), CAnswer::REFUSED, 0, 0, 0),
+        Answer::Failed(why, frames) => answer_with(why.number(), CAnswer::FAILED, frames, 0, 0),
+        Answer::Wait => answer_with(0, CAnswer::WAIT, 0, 0, 0),
+        Answer::Frame(len) => answer_with(0, CAnswer::FRAME, 0, 0, len),
+        Answer::Taken => answer_with(0, CAnswer::TAKEN, 0, 0, 0),
+        Answer::Retry => answer_with(0, CAnswer::RETRY, 0, 0, 0),
+        Answer::Unchanged => answer_with(0, CAnswer::UNCHANGED, 0, 0, 0),
+        Answer::Delivered(frames) => answer_with(0, CAnswer::DELIVERED, frames, 0, 0),
+        Answer::Acknowledged => answer_with(0, CAnswer::ACKNOWLEDGED, 0, 0, 0),
+        Answer::Discarded => answer_with(0, CAnswer::DISCARDED, 0, 0, 0),
+        Answer::Stored => answer_with(0, CAnswer::STORED, 0, 0, 0),
+        Answer::Received => answer_with(0, CAnswer::RECEIVED, 0, 0, 0),
+        Answer::NextBurst => answer_with(0, CAnswer::NEXT_BURST, 0, 0, 0),
+        Answer::NextBurstDelivers(frames) => answer_with(
+            0,
+            CAnswer::NEXT_BURST_DELIVERS,
+            frames,
+            0,
+            0,
+        ),
+        Answer::Repeated => answer_with(0, CAnswer::REPEATED, 0, 0, 0),
+        Answer::Response { iu, opened, frames } => answer_opened(
+            CAnswer::RESPONSE,
+            frames,
+            iu,
+            opened,
+        ),
     }
 }
 
 // A set-up was taken.
-pub(crate) fn ready() -> Told
+pub(crate) fn ready() -> CAnswer
     ensures { λ r. ⌜ r ≡ word 16 ⌝ }
 {
-    tell(0, Told::READY, 0, 0, 0)
+    answer_with(0, CAnswer::READY, 0, 0, 0)
 }

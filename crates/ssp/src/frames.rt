@@ -7,13 +7,13 @@ ghost use Rattle.frame.specs.Read.{decode};
 ghost use Rattle.frame.specs.Write.{put, over, written, writeAnswer};
 ghost use Rattle.frame.specs.TwoSteps.{putData, putHeader};
 ghost use Rattle.frame.specs.XferRdy.{xferRdyBytes, xferRdyOf};
-ghost use Rattle.ssp.specs.Frames.{framed, flat, asked, plain, writtenTold, xferRdyAnswer, ReadsHeader, ReadsXferRdy};
+ghost use Rattle.ssp.specs.Frames.{framed, flat, asked, plain, writtenAnswer, xferRdyAnswer, ReadsHeader, ReadsXferRdy};
 use crate::answer;
+use crate::types::CAnswer;
 use crate::types::Header;
-use crate::types::HeaderTold;
-use crate::types::Told;
+use crate::types::HeaderReturn;
 use crate::types::XferRdy;
-use crate::types::XferRdyTold;
+use crate::types::XferRdyReturn;
 use frame::Decoded;
 use frame::Flags;
 use frame::Written;
@@ -25,7 +25,7 @@ fn framed(h: Header) -> frame::Header
     ensures { λ r. ⌜ r ≡ framed h ⌝ }
 {
     frame::Header {
-        kind: h.kind,
+        frametype: h.frametype,
         dest: h.dest,
         source: h.source,
         flags: Flags {
@@ -45,7 +45,7 @@ fn flat(h: frame::Header) -> Header
 {
     let flags = h.flags;
     Header {
-        kind: h.kind,
+        frametype: h.frametype,
         dest: h.dest,
         source: h.source,
         retry: flags.retry,
@@ -77,19 +77,19 @@ fn plain(x: frame::XferRdy) -> XferRdy
 }
 
 // The answer of the writer and of its steps.
-fn wrote(w: Written) -> Told
-    ensures { λ r. ⌜ r ≡ writtenTold (written w) ⌝ }
+fn wrote(w: Written) -> CAnswer
+    ensures { λ r. ⌜ r ≡ writtenAnswer (written w) ⌝ }
 {
     match w {
-        Written::Frame(len) => answer::tell(0, Told::FRAME, 0, 0, len),
-        Written::Refused(why) => answer::told(Answer::Refused(why)),
+        Written::Frame(len) => answer::answer_with(0, CAnswer::FRAME, 0, 0, len),
+        Written::Refused(why) => answer::c_answer(Answer::Refused(why)),
     }
 }
 
 // 1, 3, else the frame's length; the frame stands at the front of the output buffer.
 #[no_mangle]
-pub extern "C" fn ssp_frame_write(h: Header, iu: &[u8], out: &mut [u8]) -> Told
-    ensures { λ r. ⌜ (r ≡ writtenTold (writeAnswer (framed h) (now (iu .entry)) (now (out .entry)))) × (now (out .exit) ≡ put (writeAnswer (framed h) (now (iu .entry)) (now (out .entry))) (encode (framed h) (now (iu .entry))) (now (out .entry))) ⌝ }
+pub extern "C" fn ssp_frame_write(h: Header, iu: &[u8], out: &mut [u8]) -> CAnswer
+    ensures { λ r. ⌜ (r ≡ writtenAnswer (writeAnswer (framed h) (now (iu .entry)) (now (out .entry)))) × (now (out .exit) ≡ put (writeAnswer (framed h) (now (iu .entry)) (now (out .entry))) (encode (framed h) (now (iu .entry))) (now (out .entry))) ⌝ }
 {
     let w = frame::write(framed(h), iu, out);
     wrote(w)
@@ -97,8 +97,8 @@ pub extern "C" fn ssp_frame_write(h: Header, iu: &[u8], out: &mut [u8]) -> Told
 
 // 1, 3, else the frame's length; IU and fill stand in the output buffer from byte 24 on.
 #[no_mangle]
-pub extern "C" fn ssp_frame_write_data(h: Header, iu: &[u8], out: &mut [u8]) -> Told
-    ensures { λ r. ⌜ (r ≡ writtenTold (writeAnswer (framed h) (now (iu .entry)) (now (out .entry)))) × (now (out .exit) ≡ putData (framed h) (now (iu .entry)) (now (out .entry))) ⌝ }
+pub extern "C" fn ssp_frame_write_data(h: Header, iu: &[u8], out: &mut [u8]) -> CAnswer
+    ensures { λ r. ⌜ (r ≡ writtenAnswer (writeAnswer (framed h) (now (iu .entry)) (now (out .entry)))) × (now (out .exit) ≡ putData (framed h) (now (iu .entry)) (now (out .entry))) ⌝ }
 {
     let w = frame::write_data(framed(h), iu, out);
     wrote(w)
@@ -106,34 +106,34 @@ pub extern "C" fn ssp_frame_write_data(h: Header, iu: &[u8], out: &mut [u8]) -> 
 
 // 1, 3 for the whole frame, else its length; the header stands at the front of the output buffer.
 #[no_mangle]
-pub extern "C" fn ssp_frame_write_header(h: Header, iu: &[u8], out: &mut [u8]) -> Told
-    ensures { λ r. ⌜ (r ≡ writtenTold (writeAnswer (framed h) (now (iu .entry)) (now (out .entry)))) × (now (out .exit) ≡ putHeader (framed h) (now (iu .entry)) (now (out .entry))) ⌝ }
+pub extern "C" fn ssp_frame_write_header(h: Header, iu: &[u8], out: &mut [u8]) -> CAnswer
+    ensures { λ r. ⌜ (r ≡ writtenAnswer (writeAnswer (framed h) (now (iu .entry)) (now (out .entry)))) × (now (out .exit) ≡ putHeader (framed h) (now (iu .entry)) (now (out .entry))) ⌝ }
 {
     let w = frame::write_header(framed(h), iu, out);
     wrote(w)
 }
 
-fn read_header(h: Header, bytes: &[u8]) -> HeaderTold
+fn read_header(h: Header, bytes: &[u8]) -> HeaderReturn
     ensures { λ r. ⌜ ReadsHeader (decode (now (bytes .entry))) h (r .left) (r .answer) ⌝ }
 {
     match frame::read(bytes) {
         Decoded::Frame(p) => {
             let g = p.header;
-            HeaderTold {
+            HeaderReturn {
                 left: flat(g),
-                answer: answer::tell(0, Told::PARSED, 0, p.start, p.len),
+                answer: answer::answer_with(0, CAnswer::PARSED, 0, p.start, p.len),
             }
         }
-        Decoded::Refused(why) => HeaderTold {
+        Decoded::Refused(why) => HeaderReturn {
             left: h,
-            answer: answer::told(Answer::Refused(why)),
+            answer: answer::c_answer(Answer::Refused(why)),
         },
     }
 }
 
 // Any bytes: 5, 6, else the header, start and length of the IU. A refusal leaves the header as it was.
 #[no_mangle]
-pub extern "C" fn ssp_frame_read(s: &mut Header, bytes: &[u8]) -> Told
+pub extern "C" fn ssp_frame_read(s: &mut Header, bytes: &[u8]) -> CAnswer
     ensures { λ r. ⌜ ReadsHeader (decode (now (bytes .entry))) (now (s .entry)) (now (s .exit)) r ⌝ }
 {
     let r = read_header(*s, bytes);
@@ -151,34 +151,34 @@ fn place(x: XferRdy, out: &mut [u8])
 
 // 3, else 12; the IU stands at the front of the output buffer.
 #[no_mangle]
-pub extern "C" fn ssp_xfer_rdy_write(x: XferRdy, out: &mut [u8]) -> Told
-    ensures { λ r. ⌜ (r ≡ writtenTold (xferRdyAnswer (now (out .entry)))) × (now (out .exit) ≡ put (xferRdyAnswer (now (out .entry))) (xferRdyBytes (asked x)) (now (out .entry))) ⌝ }
+pub extern "C" fn ssp_xfer_rdy_write(x: XferRdy, out: &mut [u8]) -> CAnswer
+    ensures { λ r. ⌜ (r ≡ writtenAnswer (xferRdyAnswer (now (out .entry)))) × (now (out .exit) ≡ put (xferRdyAnswer (now (out .entry))) (xferRdyBytes (asked x)) (now (out .entry))) ⌝ }
 {
     if out.len() < 12 {
-        return answer::told(Answer::Refused(Refusal::FrameSpaceShort));
+        return answer::c_answer(Answer::Refused(Refusal::FrameSpaceShort));
     }
     place(x, out);
-    answer::tell(0, Told::FRAME, 0, 0, 12)
+    answer::answer_with(0, CAnswer::FRAME, 0, 0, 12)
 }
 
-fn read_xfer_rdy(x: XferRdy, iu: &[u8]) -> XferRdyTold
+fn read_xfer_rdy(x: XferRdy, iu: &[u8]) -> XferRdyReturn
     ensures { λ r. ⌜ ReadsXferRdy (xferRdyOf (now (iu .entry))) x (r .left) (r .answer) ⌝ }
 {
     match frame::read_xfer_rdy(iu) {
-        XferRdyIu::Taken(y) => XferRdyTold {
+        XferRdyIu::Taken(y) => XferRdyReturn {
             left: plain(y),
-            answer: answer::tell(0, Told::PARSED, 0, 0, 12),
+            answer: answer::answer_with(0, CAnswer::PARSED, 0, 0, 12),
         },
-        XferRdyIu::Failed(why) => XferRdyTold {
+        XferRdyIu::Failed(why) => XferRdyReturn {
             left: x,
-            answer: answer::told(Answer::Failed(why, 0)),
+            answer: answer::c_answer(Answer::Failed(why, 0)),
         },
     }
 }
 
 // An IU of any length: 23, 24, else offset and length. A failure leaves them as they were.
 #[no_mangle]
-pub extern "C" fn ssp_xfer_rdy_read(s: &mut XferRdy, iu: &[u8]) -> Told
+pub extern "C" fn ssp_xfer_rdy_read(s: &mut XferRdy, iu: &[u8]) -> CAnswer
     ensures { λ r. ⌜ ReadsXferRdy (xferRdyOf (now (iu .entry))) (now (s .entry)) (now (s .exit)) r ⌝ }
 {
     let r = read_xfer_rdy(*s, iu);

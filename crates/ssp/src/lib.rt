@@ -2,10 +2,11 @@
 // pointers to whole records and buffers of those lengths, no two of which overlap in one call, and bools that are 0 or 1.
 mod answer;
 mod frames;
-mod read_receive;
-mod read_send;
-mod response_send;
+mod read_initiator;
+mod read_target;
+mod respond;
 mod sense;
 mod types;
-mod write_receive;
-mod write_send;
+mod version;
+mod write_initiator;
+mod write_target;

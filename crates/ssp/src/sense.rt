@@ -3,9 +3,9 @@ ghost use mathlib.Core.Path.{_≡_};
 ghost use lib.ListN.{length};
 ghost use Rattle.frame.specs.Lent.{Shows};
 ghost use Rattle.frame.specs.Response.{responseIuOf};
-ghost use Rattle.ssp.specs.Sense.{responseTold, openedIn, senseTold};
+ghost use Rattle.ssp.specs.Sense.{responseAnswer, openedIn, senseAnswered};
 use crate::answer;
-use crate::types::Told;
+use crate::types::CAnswer;
 use frame::ResponseIu;
 use status::Answer;
 use status::Opened;
@@ -13,12 +13,12 @@ use status::Part;
 
 // An IU of any length: 32, 34, else kind, status and bytes of sense data.
 #[no_mangle]
-pub extern "C" fn ssp_response_iu_read(iu: &[u8]) -> Told
-    ensures { λ r. ⌜ r ≡ responseTold (responseIuOf (now (iu .entry))) (length (now (iu .entry))) ⌝ }
+pub extern "C" fn ssp_response_iu_read(iu: &[u8]) -> CAnswer
+    ensures { λ r. ⌜ r ≡ responseAnswer (responseIuOf (now (iu .entry))) (length (now (iu .entry))) ⌝ }
 {
     match frame::read_response(iu) {
-        ResponseIu::Taken(o) => answer::tell_opened(
-            Told::PARSED,
+        ResponseIu::Taken(o) => answer::answer_opened(
+            CAnswer::PARSED,
             0,
             Part {
                 start: 0,
@@ -26,11 +26,11 @@ pub extern "C" fn ssp_response_iu_read(iu: &[u8]) -> Told
             },
             o,
         ),
-        ResponseIu::Failed(why) => answer::told(Answer::Failed(why, 0)),
+        ResponseIu::Failed(why) => answer::c_answer(Answer::Failed(why, 0)),
     }
 }
 
-fn opened_in(a: Told) -> Opened
+fn opened_in(a: CAnswer) -> Opened
     ensures { λ r. ⌜ r ≡ openedIn a ⌝ }
 {
     Opened {
@@ -40,10 +40,10 @@ fn opened_in(a: Told) -> Opened
     }
 }
 
-fn sense_told(a: Told, bytes: &[u8]) -> &[u8]
-    ensures { λ r. ⌜ Shows r (bytes .entry) (senseTold a (now (bytes .entry))) ⌝ }
+fn sense_answered(a: CAnswer, bytes: &[u8]) -> &[u8]
+    ensures { λ r. ⌜ Shows r (bytes .entry) (senseAnswered a (now (bytes .entry))) ⌝ }
 {
-    if (a.what == Told::RESPONSE) | (a.what == Told::PARSED) {
+    if (a.what == CAnswer::RESPONSE) | (a.what == CAnswer::PARSED) {
         let start = a.start;
         let len = a.len;
         return frame::sense_of(opened_in(a), frame::part(bytes, start, len));
@@ -53,10 +53,10 @@ fn sense_told(a: Told, bytes: &[u8]) -> &[u8]
 
 // The sense data of the answer a to these bytes: the part is put down, and its length answered.
 #[no_mangle]
-pub extern "C" fn ssp_sense_data<'a>(part: &mut &'a [u8], a: Told, bytes: &'a [u8]) -> usize
-    ensures { λ r. ⌜ Shows (now (part .exit)) (bytes .entry) (senseTold a (now (bytes .entry))) × (r ≡ length (senseTold a (now (bytes .entry)) .bytes)) ⌝ }
+pub extern "C" fn ssp_sense_data<'a>(part: &mut &'a [u8], a: CAnswer, bytes: &'a [u8]) -> usize
+    ensures { λ r. ⌜ Shows (now (part .exit)) (bytes .entry) (senseAnswered a (now (bytes .entry))) × (r ≡ length (senseAnswered a (now (bytes .entry)) .bytes)) ⌝ }
 {
-    let s = sense_told(a, bytes);
+    let s = sense_answered(a, bytes);
     *part = s;
     s.len()
 }

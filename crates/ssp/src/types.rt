@@ -7,7 +7,7 @@ use target::Target;
 
 // The answer of a call. A field that a case does not name is 0.
 #[repr(C)]
-pub struct Told {
+pub struct CAnswer {
     // the paper's number, 0 where it has none
     pub number: u8,
     // one of those below
@@ -24,7 +24,7 @@ pub struct Told {
     pub sense: usize,
 }
 
-impl Told {
+impl CAnswer {
     // 1 to 8: nothing changed
     pub const REFUSED: u8 = 0;
 
@@ -72,40 +72,40 @@ impl Told {
 
 // What a call over each record leaves and answers.
 #[repr(C)]
-pub struct SenderTold {
+pub struct ReadTargetReturn {
     pub left: Sender,
-    pub answer: Told,
+    pub answer: CAnswer,
 }
 
 #[repr(C)]
-pub struct ReceiverTold {
+pub struct ReadInitiatorReturn {
     pub left: Receiver,
-    pub answer: Told,
+    pub answer: CAnswer,
 }
 
 #[repr(C)]
-pub struct WriterTold {
+pub struct WriteInitiatorReturn {
     pub left: Writer,
-    pub answer: Told,
+    pub answer: CAnswer,
 }
 
 #[repr(C)]
-pub struct TargetTold {
+pub struct WriteTargetReturn {
     pub left: Target,
-    pub answer: Told,
+    pub answer: CAnswer,
 }
 
 #[repr(C)]
-pub struct ResponderTold {
+pub struct ResponseReturn {
     pub left: Responder,
-    pub answer: Told,
+    pub answer: CAnswer,
 }
 
 // A frame's header.
 #[repr(C)]
 pub struct Header {
     // the type byte
-    pub kind: u8,
+    pub frametype: u8,
     // hashed addresses, 24 bits each
     pub dest: u32,
     pub source: u32,
@@ -133,13 +133,13 @@ pub struct XferRdy {
 }
 
 #[repr(C)]
-pub struct HeaderTold {
+pub struct HeaderReturn {
     pub left: Header,
-    pub answer: Told,
+    pub answer: CAnswer,
 }
 
 #[repr(C)]
-pub struct XferRdyTold {
+pub struct XferRdyReturn {
     pub left: XferRdy,
-    pub answer: Told,
+    pub answer: CAnswer,
 }

@@ -31,12 +31,24 @@ abbrev pub After : {X : Type 0} → (X → Type 0) → Said → X → X → Type
 After End (Said.refused n) x y = y ≡ x
 After End (Said.failed n k) x y = End y
 After End (Said.response start len o n) x y = End y
-After End (Said.told w) x y = AfterWord w x y
+After End (Said.word w) x y = AfterWord w x y
 After End (Said.frame n) x y = Unit {0}
 After End (Said.delivered n) x y = Unit {0}
 After End Said.stored x y = Unit {0}
 After End Said.received x y = Unit {0}
-After End (Said.burst t) x y = Unit {0}
+After End (Said.xferRdy t) x y = Unit {0}
+
+-- what holds of each refusal holds of an answer that refuses
+pub refusing : (P : Said → Type 0) → ((n : ℕ) → P (Said.refused n)) → (a : Said) → refuses a ≡ true → P a
+refusing P p (Said.refused n) e = p n
+refusing P p (Said.failed n k) e = absurd (false≢true e)
+refusing P p (Said.response start len o n) e = absurd (false≢true e)
+refusing P p (Said.word w) e = absurd (false≢true e)
+refusing P p (Said.frame n) e = absurd (false≢true e)
+refusing P p (Said.delivered n) e = absurd (false≢true e)
+refusing P p Said.stored e = absurd (false≢true e)
+refusing P p Said.received e = absurd (false≢true e)
+refusing P p (Said.xferRdy t) e = absurd (false≢true e)
 
 abbrev pub Leaves : {X : Type 0} → (X → Type 0) → X → Left X → Type 0
 Leaves End x r = After End (r .says) x (r .left)
@@ -56,27 +68,8 @@ module _ {X : Type 0} (End : X → Type 0) (x : X) where
   failure-ends r l n k e = subst (λ (a : Said). After End a x (r .left)) e l
 
   pub refused-same : (r : Left X) → Leaves End x r → refuses (r .says) ≡ true → r .left ≡ x
-  refused-same r = go (r .says)
-    where
-      go : (a : Said) → After End a x (r .left) → refuses a ≡ true → r .left ≡ x
-      go (Said.refused n) l e = l
-      go (Said.failed n k) l e = absurd (false≢true e)
-      go (Said.response start len o n) l e = absurd (false≢true e)
-      go (Said.told w) l e = absurd (false≢true e)
-      go (Said.frame n) l e = absurd (false≢true e)
-      go (Said.delivered n) l e = absurd (false≢true e)
-      go Said.stored l e = absurd (false≢true e)
-      go Said.received l e = absurd (false≢true e)
-      go (Said.burst t) l e = absurd (false≢true e)
+  refused-same r l e = refusing (λ (a : Said). After End a x (r .left) → r .left ≡ x) (λ n h. h) (r .says) e l
 
 -- a refusal stores nothing
 pub refused-stores : (a : Said) → refuses a ≡ true → stores a ≡ false
-refused-stores (Said.refused n) e = refl
-refused-stores (Said.failed n k) e = refl
-refused-stores (Said.response start len o n) e = refl
-refused-stores (Said.told w) e = refl
-refused-stores (Said.frame n) e = refl
-refused-stores (Said.delivered n) e = refl
-refused-stores Said.stored e = absurd (false≢true e)
-refused-stores Said.received e = absurd (false≢true e)
-refused-stores (Said.burst t) e = refl
+refused-stores = refusing (λ (a : Said). stores a ≡ false) (λ n. refl)

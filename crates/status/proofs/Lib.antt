@@ -1,3 +1,4 @@
 pub mod Choose
 pub mod Opened
 pub mod Leaves
+pub mod Wildcard

@@ -1,7 +1,9 @@
 -- What a call answers, in the paper's terms: "a definition that gives this paper's number and values for each of its cases".
 use Prim.Native.Nat.{ℕ}
 use mathlib.Core.Bool.{Bool, true, false}
+use mathlib.Core.Option.{Option, none, some}
 use Rattle.status.specs.Number.{refusalNumber, failureNumber}
+use Rattle.status.specs.Report.{Report}
 use Rattle.status.specs.declared.entry.Entry.{Entry}
 use Rattle.status.specs.declared.entry.Entry.the-variants.{Open, Closed}
 use Rattle.status.specs.declared.answer.Opened.{Opened}
@@ -39,63 +41,86 @@ pub data Said : Type 0 where
   -- DATA is stored; and the burst is filled with it
   stored received : Said
   -- an XFER_RDY was taken
-  burst : Taking → Said
+  xferRdy : Taking → Said
   -- the command has ended; where the RESPONSE's IU stands in the frame, its start and length; what it says (request K9); the frames of the burst in service
   response : ℕ → ℕ → Opened → ℕ → Said
-  told : Word → Said
+  word : Word → Said
 
 -- each answer's number and values
 abbrev pub says : Answer → Said
 says (Refused why) = refused (refusalNumber why)
 says (Failed why n) = failed (failureNumber why) n
-says Wait = told wait
+says Wait = word wait
 says (Frame n) = frame n
-says Taken = told taken
-says Retry = told retry
-says Unchanged = told unchanged
+says Taken = word taken
+says Retry = word retry
+says Unchanged = word unchanged
 says (Delivered n) = delivered n
-says Acknowledged = told acknowledged
-says Discarded = told discarded
+says Acknowledged = word acknowledged
+says Discarded = word discarded
 says Stored = stored
 says Received = received
-says NextBurst = burst next
-says (NextBurstDelivers n) = burst (delivers n)
-says Repeated = burst repeats
+says NextBurst = xferRdy next
+says (NextBurstDelivers n) = xferRdy (delivers n)
+says Repeated = xferRdy repeats
 says (Response iu o n) = response (iu .start) (iu .len) o n
 
--- the paper's number, 0 where it has none
+-- a RESPONSE that was opened: where its IU stands in the frame, what it says
+pub record Opening : Type 0 where
+  pub start : ℕ
+  pub len : ℕ
+  pub opened : Opened
+
+-- what ports, link and ladder ask of an answer
+pub record View : Type 0 where
+  -- the paper's number, 0 where it has none
+  pub number : ℕ
+  -- the call was refused
+  pub refuses : Bool
+  -- the length of the frame that was handed out
+  pub frame : Option ℕ
+  pub report : Report
+  -- the count of frames that it tells
+  pub count : Option ℕ
+  -- DATA is stored; DATA is discarded
+  pub stores : Bool
+  pub discards : Bool
+  -- an XFER_RDY was taken
+  pub takes : Bool
+  pub response : Option Opening
+
+abbrev pub countIn : Taking → Option ℕ
+countIn next = none
+countIn (delivers n) = some n
+countIn repeats = none
+
+abbrev pub discarding : Word → Bool
+discarding discarded = true
+discarding wait = false
+discarding taken = false
+discarding retry = false
+discarding unchanged = false
+discarding acknowledged = false
+
+abbrev pub view : Said → View
+view (refused n) = record { number = n; refuses = true; frame = none; report = Report.none; count = none; stores = false; discards = false; takes = false; response = none }
+view (failed n k) = record { number = n; refuses = false; frame = none; report = Report.failed n k; count = some k; stores = false; discards = false; takes = false; response = none }
+view (frame n) = record { number = 0; refuses = false; frame = some n; report = Report.none; count = none; stores = false; discards = false; takes = false; response = none }
+view (delivered n) = record { number = 0; refuses = false; frame = none; report = Report.delivered n; count = some n; stores = false; discards = false; takes = false; response = none }
+view stored = record { number = 0; refuses = false; frame = none; report = Report.none; count = none; stores = true; discards = false; takes = false; response = none }
+view received = record { number = 0; refuses = false; frame = none; report = Report.none; count = none; stores = true; discards = false; takes = false; response = none }
+view (xferRdy t) = record { number = 0; refuses = false; frame = none; report = Report.none; count = countIn t; stores = false; discards = false; takes = true; response = none }
+view (response start len o n) = record { number = 0; refuses = false; frame = none; report = Report.none; count = some n; stores = false; discards = false; takes = false; response = some (record { start = start; len = len; opened = o }) }
+view (word w) = record { number = 0; refuses = false; frame = none; report = Report.none; count = none; stores = false; discards = discarding w; takes = false; response = none }
+
 abbrev pub number : Said → ℕ
-number (refused n) = n
-number (failed n k) = n
-number (frame n) = 0
-number (delivered n) = 0
-number stored = 0
-number received = 0
-number (burst t) = 0
-number (response start len o n) = 0
-number (told w) = 0
+number a = view a .number
 
 abbrev pub stores : Said → Bool
-stores (refused n) = false
-stores (failed n k) = false
-stores (frame n) = false
-stores (delivered n) = false
-stores stored = true
-stores received = true
-stores (burst t) = false
-stores (response start len o n) = false
-stores (told w) = false
+stores a = view a .stores
 
 abbrev pub refuses : Said → Bool
-refuses (refused n) = true
-refuses (failed n k) = false
-refuses (frame n) = false
-refuses (delivered n) = false
-refuses stored = false
-refuses received = false
-refuses (burst t) = false
-refuses (response start len o n) = false
-refuses (told w) = false
+refuses a = view a .refuses
 
 -- what a call leaves of the record that it met, and what it answers
 pub record Left (X : Type 0) : Type 0 where

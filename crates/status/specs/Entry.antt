@@ -14,5 +14,5 @@ abbrev pub andSome : Entry → Bool → Entry
 andSome (Closed why) some = Closed why
 andSome Open some = pick some Open (Closed AnswerWithoutFrame)
 
-unfoldable pub answerableOf : Bool → Bool → Bool → Entry
-answerableOf ok ended some = andSome (entryOf ok ended) some
+unfoldable pub confirmableOf : Bool → Bool → Bool → Entry
+confirmableOf ok ended some = andSome (entryOf ok ended) some

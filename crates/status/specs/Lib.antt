@@ -1,5 +1,6 @@
 pub mod Number
 pub mod Pick
 pub mod Entry
+pub mod Report
 pub mod Answer
-pub mod Outcome
+pub mod Result

@@ -64,24 +64,7 @@ impl Answer {
         match self {
             Answer::Refused(why) => why.number(),
             Answer::Failed(why, _) => why.number(),
-            Answer::Wait => 0,
-            Answer::Frame(_) => 0,
-            Answer::Taken => 0,
-            Answer::Retry => 0,
-            Answer::Unchanged => 0,
-            Answer::Delivered(_) => 0,
-            Answer::Acknowledged => 0,
-            Answer::Discarded => 0,
-            Answer::Stored => 0,
-            Answer::Received => 0,
-            Answer::NextBurst => 0,
-            Answer::NextBurstDelivers(_) => 0,
-            Answer::Repeated => 0,
-            Answer::Response {
-                iu: _,
-                opened: _,
-                frames: _,
-            } => 0,
+            _ => 0,
         }
     }
 
@@ -90,26 +73,9 @@ impl Answer {
         ensures { λ r. ⌜ r ≡ stores (says self) ⌝ }
     {
         match self {
-            Answer::Refused(_) => false,
-            Answer::Failed(_, _) => false,
-            Answer::Wait => false,
-            Answer::Frame(_) => false,
-            Answer::Taken => false,
-            Answer::Retry => false,
-            Answer::Unchanged => false,
-            Answer::Delivered(_) => false,
-            Answer::Acknowledged => false,
-            Answer::Discarded => false,
             Answer::Stored => true,
             Answer::Received => true,
-            Answer::NextBurst => false,
-            Answer::NextBurstDelivers(_) => false,
-            Answer::Repeated => false,
-            Answer::Response {
-                iu: _,
-                opened: _,
-                frames: _,
-            } => false,
+            _ => false,
         }
     }
 
@@ -119,25 +85,7 @@ impl Answer {
     {
         match self {
             Answer::Refused(_) => true,
-            Answer::Failed(_, _) => false,
-            Answer::Wait => false,
-            Answer::Frame(_) => false,
-            Answer::Taken => false,
-            Answer::Retry => false,
-            Answer::Unchanged => false,
-            Answer::Delivered(_) => false,
-            Answer::Acknowledged => false,
-            Answer::Discarded => false,
-            Answer::Stored => false,
-            Answer::Received => false,
-            Answer::NextBurst => false,
-            Answer::NextBurstDelivers(_) => false,
-            Answer::Repeated => false,
-            Answer::Response {
-                iu: _,
-                opened: _,
-                frames: _,
-            } => false,
+            _ => false,
         }
     }
 }

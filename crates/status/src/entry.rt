@@ -1,6 +1,6 @@
-// The numbers that every entry point tests first: 1, 2, and 4 for answers.
+// The numbers that every entry point tests first: 1, 2, and 4 for confirmations.
 ghost use mathlib.Core.Path.{_≡_};
-ghost use Rattle.status.specs.Entry.{entryOf, answerableOf};
+ghost use Rattle.status.specs.Entry.{entryOf, confirmableOf};
 use crate::words::Refusal;
 
 // Whether a call is refused before its own work.
@@ -23,8 +23,8 @@ pub fn admit(ok: bool, ended: bool) -> Entry
 }
 
 // 1, 2, then 4. `some`: a frame is unanswered.
-pub fn answerable(ok: bool, ended: bool, some: bool) -> Entry
-    ensures { λ r. ⌜ r ≡ answerableOf ok ended some ⌝ }
+pub fn confirmable(ok: bool, ended: bool, some: bool) -> Entry
+    ensures { λ r. ⌜ r ≡ confirmableOf ok ended some ⌝ }
 {
     match admit(ok, ended) {
         Entry::Closed(why) => Entry::Closed(why),

@@ -8,6 +8,6 @@ pub use answer::Opened;
 pub use answer::Part;
 pub use entry::Entry;
 pub use entry::admit;
-pub use entry::answerable;
+pub use entry::confirmable;
 pub use words::Failure;
 pub use words::Refusal;

@@ -10,7 +10,7 @@ use Rattle.receiver.specs.DataFrame.{arrivalOf}
 use Rattle.receiver.proofs.Kept.{Same, arrival-same}
 use Rattle.target.specs.Record.{UNANSWERED, AGAIN, holdsOf}
 use Rattle.target.specs.Transmit.{issuedOf}
-use Rattle.target.specs.Answer.{answersOf, retryOf, ackOf, nakOf, timeoutOf, cutOf, lossOf}
+use Rattle.target.specs.Confirmation.{confirmsOf, retryOf, ackOf, nakOf, timeoutOf, cutOf, lossOf}
 use Rattle.target.specs.Arrival.{writeArrivalOf}
 use Rattle.target.specs.declared.types.Target.{Target}
 use Rattle.target.proofs.Issue.{resent}
@@ -32,13 +32,13 @@ module _ (y : Target) where
   retry-stays cause = picked Stays _ _ _ stays (record { transfer = refl; base = refl; end = refl })
 
   pub ack-keeps : Keeps y (ackOf y .left)
-  ack-keeps = unless-gives Stays (answersOf y) y _ (λ n. stays) (record { transfer = refl; base = refl; end = refl })
+  ack-keeps = unless-gives Stays (confirmsOf y) y _ (λ n. stays) (record { transfer = refl; base = refl; end = refl })
 
   pub nak-keeps : Keeps y (nakOf y .left)
-  nak-keeps = unless-gives Stays (answersOf y) y _ (λ n. stays) (retry-stays 28)
+  nak-keeps = unless-gives Stays (confirmsOf y) y _ (λ n. stays) (retry-stays 28)
 
   pub timeout-keeps : Keeps y (timeoutOf y .left)
-  timeout-keeps = unless-gives Stays (answersOf y) y _ (λ n. stays) (retry-stays 29)
+  timeout-keeps = unless-gives Stays (confirmsOf y) y _ (λ n. stays) (retry-stays 29)
 
   pub cut-keeps : Keeps y (cutOf y .left)
   cut-keeps = unless-gives Stays (entryOf (holdsOf y) (y .receiver .ended)) y _ (λ n. stays) (picked Stays (eqb (y .state) UNANSWERED) _ _ (retry-stays 30) stays)

@@ -8,20 +8,22 @@ use Rattle.frame.specs.Write.{hands}
 use Rattle.status.specs.Entry.{entryOf}
 use Rattle.status.specs.Pick.{pick, _with_}
 use Rattle.status.specs.Answer.{Said, Left, _saying_, stores}
-use Rattle.status.specs.Outcome.{Outcome}
-use Rattle.status.proofs.Opened.{ended-entry, ended-answerable}
+use Rattle.status.specs.Result.{Result}
+use Rattle.status.proofs.Opened.{ended-entry, ended-confirmable}
 use Rattle.status.proofs.Leaves.{Leaves, After, picked, leaves-pick, leaves-unless, unless-gives}
 use Rattle.arrival.specs.Accept.{acceptOf}
 use Rattle.arrival.specs.declared.Role.the-variants.{ReadTarget}
 use Rattle.arrival.specs.declared.Arrived.{Arrived}
-use Rattle.sender.specs.declared.types.Sender.{Sender}
-use Rattle.receiver.specs.DataFrame.{lentOf as lentTo, arrivalOf, storedOf}
-use Rattle.receiver.specs.declared.types.Receiver.{Receiver}
+use Rattle.sender_steps.specs.declared.types.Sender.{Sender}
+use Rattle.receiver_steps.specs.Record.{lentOf as lentTo}
+use Rattle.receiver_steps.specs.DataFrame.{storedOf}
+use Rattle.receiver.specs.DataFrame.{arrivalOf}
+use Rattle.receiver_steps.specs.declared.types.Receiver.{Receiver}
 use Rattle.receiver.proofs.Views as taking
 use Rattle.target.specs.Fields.{receiver≔}
 use Rattle.target.specs.Record.{holdsOf}
 use Rattle.target.specs.Transmit.{handsOf, nextOf}
-use Rattle.target.specs.Answer.{answersOf, retryOf, ackOf, nakOf, timeoutOf, cutOf, lossOf}
+use Rattle.target.specs.Confirmation.{confirmsOf, retryOf, ackOf, nakOf, timeoutOf, cutOf, lossOf}
 use Rattle.target.specs.Arrival.{freedOf, liftedOf, writeArrivalOf}
 use Rattle.target.specs.Read.{readHoldsOf, noneOf, readArrivalOf}
 use Rattle.target.specs.declared.types.Target.{Target}
@@ -40,13 +42,13 @@ module _ (x : Target) where
   next-leaves out = leaves-unless Ended x (entryOf (holdsOf x) (x .receiver .ended)) _ (leaves-pick Ended x _ _ _ (leaves-pick Ended x _ _ _ tt refl) refl)
 
   pub ack-leaves : Leaves Ended x (ackOf x)
-  ack-leaves = leaves-unless Ended x (answersOf x) _ tt
+  ack-leaves = leaves-unless Ended x (confirmsOf x) _ tt
 
   pub nak-leaves : Leaves Ended x (nakOf x)
-  nak-leaves = leaves-unless Ended x (answersOf x) _ (leaves-retry 28)
+  nak-leaves = leaves-unless Ended x (confirmsOf x) _ (leaves-retry 28)
 
   pub timeout-leaves : Leaves Ended x (timeoutOf x)
-  timeout-leaves = leaves-unless Ended x (answersOf x) _ (leaves-retry 29)
+  timeout-leaves = leaves-unless Ended x (confirmsOf x) _ (leaves-retry 29)
 
   pub cut-leaves : Leaves Ended x (cutOf x)
   cut-leaves = leaves-unless Ended x (entryOf (holdsOf x) (x .receiver .ended)) _ (leaves-pick Ended x _ _ _ (leaves-retry 30) refl)
@@ -82,16 +84,16 @@ module _ (x : Target) where
     next-ended out = ended-entry _ _ x _ e
 
     pub ack-ended : (n : ℕ) × (ackOf x ≡ (x saying Said.refused n))
-    unfolding answersOf
-    ack-ended = ended-answerable _ _ _ x _ e
+    unfolding confirmsOf
+    ack-ended = ended-confirmable _ _ _ x _ e
 
     pub nak-ended : (n : ℕ) × (nakOf x ≡ (x saying Said.refused n))
-    unfolding answersOf
-    nak-ended = ended-answerable _ _ _ x _ e
+    unfolding confirmsOf
+    nak-ended = ended-confirmable _ _ _ x _ e
 
     pub timeout-ended : (n : ℕ) × (timeoutOf x ≡ (x saying Said.refused n))
-    unfolding answersOf
-    timeout-ended = ended-answerable _ _ _ x _ e
+    unfolding confirmsOf
+    timeout-ended = ended-confirmable _ _ _ x _ e
 
     pub cut-ended : (n : ℕ) × (cutOf x ≡ (x saying Said.refused n))
     cut-ended = ended-entry _ _ x _ e
@@ -108,6 +110,6 @@ pub read-refuses : (s : Sender) (f : List ℕ) → (n : ℕ) × (readArrivalOf s
 unfolding readArrivalOf
 read-refuses s f = unless-gives (λ (z : Left Sender). (n : ℕ) × (z ≡ (s saying Said.refused n))) (entryOf (readHoldsOf s) (s .ended)) s _ (λ n. (n, refl)) (go (acceptOf ReadTarget (s .transfer) f))
   where
-    go : (o : Outcome Arrived) → (n : ℕ) × (noneOf o s ≡ (s saying Said.refused n))
-    go (Outcome.number n) = (n, refl)
-    go (Outcome.value a) = (6, refl)
+    go : (o : Result Arrived) → (n : ℕ) × (noneOf o s ≡ (s saying Said.refused n))
+    go (Result.number n) = (n, refl)
+    go (Result.value a) = (6, refl)

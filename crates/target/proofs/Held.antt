@@ -6,9 +6,8 @@ use native.Mathlib.Omega.{arith}
 use lib.Dec.{ltb, eqb}
 use borrow.Author.Tests.{leb-true, ltb-true, eqb-true, eqb-false, le-leb, lt-ltb, eq-eqb, ne-eqb}
 use Rattle.status.proofs.Choose.{each}
-use Rattle.receiver.specs.Record as receiver
-use Rattle.receiver.specs.DataFrame as data-frame
-use Rattle.receiver.proofs.Held as marks
+use Rattle.receiver_steps.specs.Record as receiver
+use Rattle.receiver_steps.proofs.Held as marks
 use Rattle.target.specs.Record.{NONE, READY, tests, holdsOf}
 use Rattle.target.specs.Arrival.{lentOf, lentTests}
 use Rattle.target.specs.declared.types.Target.{Target}
@@ -60,5 +59,5 @@ unfolding lentOf
 lent-again x m h e = simp (h, eq-eqb _ _ e)
 
 -- the receiving port's record comes with it too
-pub core-lent : (x : Target) (m : ℕ) → lentOf x m ≡ true → data-frame.lentOf (x .receiver) m ≡ true
+pub core-lent : (x : Target) (m : ℕ) → lentOf x m ≡ true → receiver.lentOf (x .receiver) m ≡ true
 core-lent x m e = let l = lent x m e in marks.lent-again (x .receiver) m (held x (l .holds) .core) (l .size)

@@ -14,21 +14,21 @@ use Rattle.status.specs.Answer.{Said, Left, _saying_, stores, unless}
 use Rattle.status.specs.declared.entry.Entry.{Entry}
 use Rattle.status.specs.declared.entry.Entry.the-variants.{Open, Closed}
 use Rattle.status.proofs.Leaves.{picked, unless-gives}
-use Rattle.status.specs.Outcome.{Outcome}
+use Rattle.status.specs.Result.{Result}
 use Rattle.frame.specs.Format.{RESPONSE}
 use Rattle.frame.specs.Read.{headerIn}
-use Rattle.arrival.specs.Accept.{kindOf, isTaken, acceptOf}
+use Rattle.arrival.specs.Accept.{classOf, isTaken, acceptOf}
 use Rattle.arrival.specs.declared.Role.the-variants.{WriteTarget}
 use Rattle.arrival.specs.declared.Arrived.{Arrived}
 use Rattle.arrival.proofs.Passed.{passed}
 use Rattle.transfer.specs.Limits.{limitsHold}
 use Rattle.transfer.specs.declared.Transfer.{Transfer}
 use Rattle.receiver.specs.DataFrame.{arrivalOf}
-use Rattle.receiver.proofs.Held as marks
+use Rattle.receiver_steps.proofs.Held as marks
 use Rattle.receiver.proofs.Kept as kept
 use Rattle.target.specs.Record.{NONE, UNANSWERED, AGAIN, READY, holdsOf, failedOf, startOf}
 use Rattle.target.specs.Transmit.{dueOf, issuedOf, frameOf, handsOf, nextOf}
-use Rattle.target.specs.Answer.{acknowledgedOf, retryOf, answersOf, ackOf, nakOf, timeoutOf, cutOf, lossOf}
+use Rattle.target.specs.Confirmation.{acknowledgedOf, retryOf, confirmsOf, ackOf, nakOf, timeoutOf, cutOf, lossOf}
 use Rattle.target.specs.Arrival.{liftedOf, arrivedBy, lentOf, writeArrivalOf}
 use Rattle.target.specs.declared.types.Target.{Target}
 use Rattle.target.proofs.Held.{Held, held, holds-again, lent, lent-again}
@@ -115,21 +115,21 @@ module _ (x : Target) where
 
   -- the target takes no RESPONSE
   pub response-stores-nothing : (f : List ℕ) (m : ℕ) → getD f 0 0 ≡ RESPONSE → stores (writeArrivalOf x f m .says) ≡ false
-  unfolding writeArrivalOf kindOf headerIn pick
+  unfolding writeArrivalOf classOf headerIn pick
   response-stores-nothing f m e = unless-gives (λ (z : Left Target). stores (z .says) ≡ false) (entryOf (lentOf x m) (x .receiver .ended)) x _ (λ n. refl) (go (acceptOf WriteTarget (x .receiver .transfer) f) refl)
     where
-      go : (y : Outcome Arrived) → acceptOf WriteTarget (x .receiver .transfer) f ≡ y → stores (arrivedBy y x m .says) ≡ false
-      go (Outcome.number n) q = refl
-      go (Outcome.value a) q =
-          let t : isTaken (kindOf WriteTarget RESPONSE) ≡ true = rw e at (passed (x .receiver .transfer) WriteTarget f a q .taken) in
+      go : (y : Result Arrived) → acceptOf WriteTarget (x .receiver .transfer) f ≡ y → stores (arrivedBy y x m .says) ≡ false
+      go (Result.number n) q = refl
+      go (Result.value a) q =
+          let t : isTaken (classOf WriteTarget RESPONSE) ≡ true = rw e at (passed (x .receiver .transfer) WriteTarget f a q .taken) in
           absurd (false≢true t)
 
   module _ (h : holdsOf x ≡ true) where
     -- an answer that is not refused
-    answer-kept : (z : Left Target) → (x .state ≡ UNANSWERED → Kept z) → Kept (unless (answersOf x) x z)
-    answer-kept z f = go (answersOf x) refl
+    answer-kept : (z : Left Target) → (x .state ≡ UNANSWERED → Kept z) → Kept (unless (confirmsOf x) x z)
+    answer-kept z f = go (confirmsOf x) refl
       where
-        go : (e : Entry) → e ≡ answersOf x → Kept (unless e x z)
+        go : (e : Entry) → e ≡ confirmsOf x → Kept (unless e x z)
         go Open p = f (answers x p .2)
         go (Closed why) p = h
 

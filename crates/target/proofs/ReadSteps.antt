@@ -5,8 +5,8 @@ use mathlib.Core.Bool.{Bool, true, false}
 use mathlib.Core.Path.{_≡_, refl, sym, ap, _∙_}
 use Rattle.status.specs.Pick.{pick}
 use Rattle.status.specs.Answer.{Said, Left, _saying_}
-use Rattle.sender.specs.Count.{Counts}
-use Rattle.sender.specs.declared.types.Sender.{Sender}
+use Rattle.sender_steps.specs.Count.{Counts}
+use Rattle.sender_steps.specs.declared.types.Sender.{Sender}
 use Rattle.target.specs.ReadSend.{onlyRead}
 
 pub only-write : (s : Sender) (x : Left Sender) → s .transfer .write ≡ true → onlyRead s x ≡ (s saying Said.refused 1)

@@ -10,26 +10,26 @@ use borrow.Author.Tests.{leb-true, eqb-true, eqb-false, eq-eqb}
 use Rattle.status.specs.Entry.{entryOf}
 use Rattle.status.specs.Pick.{pick}
 use Rattle.status.specs.Answer.{Word, Said, Left, _saying_, stores, unless}
-use Rattle.status.specs.Outcome.{Outcome}
+use Rattle.status.specs.Result.{Result}
 use Rattle.status.specs.declared.entry.Entry.{Entry}
 use Rattle.status.specs.declared.entry.Entry.the-variants.{Open, Closed}
-use Rattle.status.proofs.Opened.{differ, opened, open-entry, answered}
+use Rattle.status.proofs.Opened.{differ, opened, open-entry, confirmed}
 use Rattle.status.proofs.Leaves.{picked, unless-gives}
 use Rattle.frame.specs.Format.{DATA, encode}
 use Rattle.frame.specs.Read.{headerIn, iuOf}
 use Rattle.frame.specs.Write.{writable, over, handing, hands}
 use Rattle.frame.specs.RoundTrip.{InRange}
 use Rattle.frame.specs.declared.types.Header.{Header}
-use Rattle.arrival.specs.Accept.{kindOf, acceptOf}
+use Rattle.arrival.specs.Accept.{classOf, acceptOf}
 use Rattle.arrival.specs.declared.Role.the-variants.{WriteTarget}
-use Rattle.arrival.specs.declared.Kind.the-variants.{Data}
+use Rattle.arrival.specs.declared.Class.the-variants.{Data}
 use Rattle.arrival.specs.declared.Arrived.{Arrived}
 use Rattle.arrival.proofs.Passed.{written-passes, written-stands}
 use Rattle.receiver.specs.DataFrame.{arrivalOf}
-use Rattle.receiver.specs.declared.types.Receiver.{Receiver}
+use Rattle.receiver_steps.specs.declared.types.Receiver.{Receiver}
 use Rattle.target.specs.Record.{UNANSWERED, READY, holdsOf}
 use Rattle.target.specs.Transmit.{dueOf, issuedOf, frameOf, handsOf, nextOf}
-use Rattle.target.specs.Answer.{acknowledgedOf, answersOf, ackOf}
+use Rattle.target.specs.Confirmation.{acknowledgedOf, confirmsOf, ackOf}
 use Rattle.target.specs.Arrival.{liftedOf, isCurrent, takenOf, arrivedBy, lentOf, writeArrivalOf}
 use Rattle.target.specs.declared.types.Target.{Target}
 use Rattle.target.proofs.Held.{held}
@@ -49,7 +49,7 @@ pub handed-out : (x : Target) (out : List ℕ) (n : ℕ) → nextOf x out .says 
 unfolding nextOf hands pick
 handed-out x out n e = go (entryOf (holdsOf x) (x .receiver .ended)) (dueOf x) (leb (length (frameOf x)) (length out)) refl refl refl e
   where
-    go : (e : Entry) (d t : Bool) → e ≡ entryOf (holdsOf x) (x .receiver .ended) → dueOf x ≡ d → leb (length (frameOf x)) (length out) ≡ t → unless e x (pick d (pick t (issuedOf x saying Said.frame (length (frameOf x))) (x saying Said.refused 3)) (x saying Said.told Word.wait)) .says ≡ Said.frame n → HandedOut x out n
+    go : (e : Entry) (d t : Bool) → e ≡ entryOf (holdsOf x) (x .receiver .ended) → dueOf x ≡ d → leb (length (frameOf x)) (length out) ≡ t → unless e x (pick d (pick t (issuedOf x saying Said.frame (length (frameOf x))) (x saying Said.refused 3)) (x saying Said.word Word.wait)) .says ≡ Said.frame n → HandedOut x out n
     go (Closed why) d t p q r e = differ (cc)
     go Open false t p q r e = differ (cc)
     go Open true false p q r e = differ (cc)
@@ -68,17 +68,17 @@ pub record Acked (z : Target) : Type 0 where
   pub holds : holdsOf z ≡ true
   pub ended : z .receiver .ended ≡ false
   pub state : z .state ≡ UNANSWERED
-  pub left : ackOf z ≡ (acknowledgedOf z saying Said.told Word.acknowledged)
+  pub left : ackOf z ≡ (acknowledgedOf z saying Said.word Word.acknowledged)
 
 -- an answer that is not refused
-pub answers : (z : Target) → Open ≡ answersOf z → (holdsOf z ≡ true) × (z .receiver .ended ≡ false) × (z .state ≡ UNANSWERED)
-unfolding answersOf
-answers z e = let a = answered _ _ _ e in (a .0, a .1, eqb-true _ _ (a .2))
+pub answers : (z : Target) → Open ≡ confirmsOf z → (holdsOf z ≡ true) × (z .receiver .ended ≡ false) × (z .state ≡ UNANSWERED)
+unfolding confirmsOf
+answers z e = let a = confirmed _ _ _ e in (a .0, a .1, eqb-true _ _ (a .2))
 
-pub acknowledged : (z : Target) → ackOf z .says ≡ Said.told Word.acknowledged → Acked z
-acknowledged z e = go (answersOf z) refl e
+pub acknowledged : (z : Target) → ackOf z .says ≡ Said.word Word.acknowledged → Acked z
+acknowledged z e = go (confirmsOf z) refl e
   where
-    go : (t : Entry) → t ≡ answersOf z → unless t z (acknowledgedOf z saying Said.told Word.acknowledged) .says ≡ Said.told Word.acknowledged → Acked z
+    go : (t : Entry) → t ≡ confirmsOf z → unless t z (acknowledgedOf z saying Said.word Word.acknowledged) .says ≡ Said.word Word.acknowledged → Acked z
     go Open p e = let a = answers z p in record { holds = a .0; ended = a .1; state = a .2; left = rw (sym p) }
     go (Closed why) p e = differ (cc)
 
@@ -86,20 +86,20 @@ acknowledged z e = go (answersOf z) refl e
 pub data Came (x : Target) (m : ℕ) : Left Target → Type 0 where
   refused : (n : ℕ) → Came x m (x saying Said.refused n)
   -- before the XFER_RDY's ACK
-  early : (x .state ≡ READY → ⊥) → Came x m (x saying Said.told Word.discarded)
+  early : (x .state ≡ READY → ⊥) → Came x m (x saying Said.word Word.discarded)
   taken : x .state ≡ READY → (offset : ℕ) (cdp : Bool) (n : ℕ) → Came x m (liftedOf x (arrivalOf (x .receiver) offset cdp n m))
 
 pub came : (x : Target) (f : List ℕ) (m : ℕ) → Came x m (writeArrivalOf x f m)
 unfolding writeArrivalOf takenOf pick
 came x f m = unless-gives (Came x m) (entryOf (lentOf x m) (x .receiver .ended)) x _ refused (go (acceptOf WriteTarget (x .receiver .transfer) f))
   where
-    by-state : (a : Arrived) (t : Bool) → eqb (x .state) READY ≡ t → Came x m (pick t (liftedOf x (arrivalOf (x .receiver) (a .header .offset) (a .header .flags .cdp) (a .len) m)) (x saying Said.told Word.discarded))
+    by-state : (a : Arrived) (t : Bool) → eqb (x .state) READY ≡ t → Came x m (pick t (liftedOf x (arrivalOf (x .receiver) (a .header .offset) (a .header .flags .cdp) (a .len) m)) (x saying Said.word Word.discarded))
     by-state a true e = taken (eqb-true _ _ e) _ _ _
     by-state a false e = early (eqb-false _ _ e)
 
-    go : (o : Outcome Arrived) → Came x m (arrivedBy o x m)
-    go (Outcome.number n) = refused n
-    go (Outcome.value a) = picked (Came x m) (isCurrent x (a .header)) _ _ (by-state a (eqb (x .state) READY) refl) (refused 8)
+    go : (o : Result Arrived) → Came x m (arrivedBy o x m)
+    go (Result.number n) = refused n
+    go (Result.value a) = picked (Came x m) (isCurrent x (a .header)) _ _ (by-state a (eqb (x .state) READY) refl) (refused 8)
 
 -- the receiving port's answer z
 pub record Lifts (x : Target) (z : Left Receiver) : Type 0 where
@@ -118,8 +118,8 @@ lifts-to x z = go (stores (z .says)) refl
 
 -- DATA that was written for this port under the current tag, after the XFER_RDY's ACK
 module _ (x : Target) (h : Header) (iu : List ℕ) (m : ℕ) where
-  pub data-arrives : lentOf x m ≡ true → x .receiver .ended ≡ false → x .state ≡ READY → h .kind ≡ DATA → h .dest ≡ x .receiver .transfer .local → h .source ≡ x .receiver .transfer .remote → h .tag ≡ x .receiver .transfer .tag → h .tptt ≡ x .tptt → InRange h → writable h (length iu) ≡ true → writeArrivalOf x (encode h iu) m ≡ liftedOf x (arrivalOf (x .receiver) (h .offset) (h .flags .cdp) (length iu) m)
-  unfolding writeArrivalOf takenOf kindOf pick
+  pub data-arrives : lentOf x m ≡ true → x .receiver .ended ≡ false → x .state ≡ READY → h .frametype ≡ DATA → h .dest ≡ x .receiver .transfer .local → h .source ≡ x .receiver .transfer .remote → h .tag ≡ x .receiver .transfer .tag → h .tptt ≡ x .tptt → InRange h → writable h (length iu) ≡ true → writeArrivalOf x (encode h iu) m ≡ liftedOf x (arrivalOf (x .receiver) (h .offset) (h .flags .cdp) (length iu) m)
+  unfolding writeArrivalOf takenOf classOf pick
   data-arrives l o y k d s g t r w =
       rw (open-entry _ _ l o, written-passes (x .receiver .transfer) WriteTarget h iu Data (rw (eq-eqb _ _ k)) refl d s g r w, eq-eqb _ _ t, y)
 

@@ -6,13 +6,13 @@ use lib.Dec.{eqb}
 use Rattle.status.specs.Pick.{pick, all, _with_}
 use Rattle.status.specs.Entry.{entryOf}
 use Rattle.status.specs.Answer.{Word, Said, Left, _saying_, stores, unless}
-use Rattle.status.specs.Outcome.{Outcome}
+use Rattle.status.specs.Result.{Result}
 use Rattle.frame.specs.declared.types.Header.{Header}
 use Rattle.arrival.specs.Accept.{acceptOf}
 use Rattle.arrival.specs.declared.Role.the-variants.{WriteTarget}
 use Rattle.arrival.specs.declared.Arrived.{Arrived}
 use Rattle.receiver.specs.DataFrame.{arrivalOf}
-use Rattle.receiver.specs.declared.types.Receiver.{Receiver}
+use Rattle.receiver_steps.specs.declared.types.Receiver.{Receiver}
 use Rattle.target.specs.Fields.{receiver≔, stored≔, under≔, since≔}
 use Rattle.target.specs.Record.{NONE, READY, holdsOf}
 use Rattle.target.specs.declared.types.Target.{Target}
@@ -34,12 +34,12 @@ isCurrent x h = not (eqb (x .state) NONE) && eqb (h .tptt) (x .tptt)
 unfoldable pub takenOf : Target → Arrived → ℕ → Left Target
 takenOf x a m =
     pick (isCurrent x (a .header))
-    (pick (eqb (x .state) READY) (liftedOf x (arrivalOf (x .receiver) (a .header .offset) (a .header .flags .cdp) (a .len) m)) (x saying Said.told Word.discarded))
+    (pick (eqb (x .state) READY) (liftedOf x (arrivalOf (x .receiver) (a .header .offset) (a .header .flags .cdp) (a .len) m)) (x saying Said.word Word.discarded))
     (x saying Said.refused 8)
 
-abbrev pub arrivedBy : Outcome Arrived → Target → ℕ → Left Target
-arrivedBy (Outcome.number n) x m = x saying Said.refused n
-arrivedBy (Outcome.value a) x m = takenOf x a m
+abbrev pub arrivedBy : Result Arrived → Target → ℕ → Left Target
+arrivedBy (Result.number n) x m = x saying Said.refused n
+arrivedBy (Result.value a) x m = takenOf x a m
 
 -- 1 as in `holdsOf`, and "the data buffer has another length" than the byte count
 abbrev pub lentTests : Target → ℕ → List Bool

@@ -1,7 +1,7 @@
 -- The record's fields, each set anew by itself: a definition says only what moves.
 use Prim.Native.Nat.{ℕ}
 use mathlib.Core.Bool.{Bool}
-use Rattle.receiver.specs.declared.types.Receiver.{Receiver}
+use Rattle.receiver_steps.specs.declared.types.Receiver.{Receiver}
 use Rattle.target.specs.declared.types.Target.{Target}
 
 abbrev pub receiver≔ : Receiver → Target → Target

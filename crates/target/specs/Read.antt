@@ -5,12 +5,12 @@ use mathlib.Core.Bool.{Bool, not}
 use Rattle.status.specs.Pick.{all}
 use Rattle.status.specs.Entry.{entryOf}
 use Rattle.status.specs.Answer.{Said, Left, _saying_, unless}
-use Rattle.status.specs.Outcome.{Outcome}
+use Rattle.status.specs.Result.{Result}
 use Rattle.arrival.specs.Accept.{acceptOf}
 use Rattle.arrival.specs.declared.Role.the-variants.{ReadTarget}
 use Rattle.arrival.specs.declared.Arrived.{Arrived}
-use Rattle.sender.specs.Record.{holdsOf}
-use Rattle.sender.specs.declared.types.Sender.{Sender}
+use Rattle.sender_steps.specs.Record.{holdsOf}
+use Rattle.sender_steps.specs.declared.types.Sender.{Sender}
 
 -- 1 as for the sending port; the record is a read's
 abbrev pub readTests : Sender → List Bool
@@ -20,9 +20,9 @@ unfoldable pub readHoldsOf : Sender → Bool
 readHoldsOf s = all (readTests s)
 
 -- none is taken: 5, else 6
-abbrev pub noneOf : Outcome Arrived → Sender → Left Sender
-noneOf (Outcome.number n) s = s saying Said.refused n
-noneOf (Outcome.value a) s = s saying Said.refused 6
+abbrev pub noneOf : Result Arrived → Sender → Left Sender
+noneOf (Result.number n) s = s saying Said.refused n
+noneOf (Result.value a) s = s saying Said.refused 6
 
 unfoldable pub readArrivalOf : Sender → List ℕ → Left Sender
 readArrivalOf s f = unless (entryOf (readHoldsOf s) (s .ended)) s (noneOf (acceptOf ReadTarget (s .transfer) f) s)

@@ -1,11 +1,11 @@
--- A read command's frames asked for at the target and the answers to them: the sending port's steps, for a read's record.
+-- A read command's frames asked for at the target and their confirmations: the sending port's, for a read's record.
 use Prim.Native.Nat.{ℕ}
 use mathlib.Core.List.{List}
 use Rattle.status.specs.Pick.{pick}
 use Rattle.status.specs.Answer.{Said, Left, _saying_}
 use Rattle.sender.specs.Transmit.{nextOf}
-use Rattle.sender.specs.Answer.{ackOf, nakOf, timeoutOf, cutOf, lossOf}
-use Rattle.sender.specs.declared.types.Sender.{Sender}
+use Rattle.sender.specs.Confirmation.{ackOf, nakOf, timeoutOf, cutOf, lossOf}
+use Rattle.sender_steps.specs.declared.types.Sender.{Sender}
 
 -- a write's record is 1, the first of the sending port's own numbers
 abbrev pub onlyRead : Sender → Left Sender → Left Sender

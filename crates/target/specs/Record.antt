@@ -6,19 +6,19 @@ use lib.Dec.{leb, ltb, eqb}
 use Rattle.status.specs.Pick.{pick, all, _with_}
 use Rattle.status.specs.Number.{refusalNumber}
 use Rattle.status.specs.Answer.{Said, says, Left, _saying_}
-use Rattle.status.specs.Outcome.{Outcome, granted}
+use Rattle.status.specs.Result.{Result, granted}
 use Rattle.transfer.specs.Limits.{limitsHold}
 use Rattle.transfer.specs.declared.Transfer.{Transfer}
-use Rattle.receiver.specs.Fields.{ended≔}
-use Rattle.receiver.specs.Record.{beginning}
-use Rattle.receiver.specs.Record as receiver
+use Rattle.receiver_steps.specs.Fields.{ended≔}
+use Rattle.receiver_steps.specs.Record.{beginning}
+use Rattle.receiver_steps.specs.Record as receiver
 use Rattle.target.specs.Fields.{receiver≔, state≔}
 use Rattle.target.specs.declared.types.Target.{Target}
-use Rattle.target.specs.declared.types.Stepped.{Stepped}
-use Rattle.target.specs.declared.types.Setup.{Setup}
-use Rattle.target.specs.declared.types.Setup.the-variants.{Ready, Refused}
+use Rattle.target.specs.declared.types.WriteStepped.{WriteStepped}
+use Rattle.target.specs.declared.types.WriteSetup.{WriteSetup}
+use Rattle.target.specs.declared.types.WriteSetup.the-variants.{Ready, Refused}
 
--- the XFER_RDY's state: none was handed out yet; its answer is due; it is to be sent again; it had its ACK
+-- the XFER_RDY's state: none was handed out yet; its confirmation is due; it is to be sent again; it had its ACK
 abbrev pub NONE : ℕ
 NONE = 0
 
@@ -55,14 +55,14 @@ startOf t = record { receiver = beginning t 0 0; state = NONE; tptt = 0; retries
 abbrev pub setUpTests : Transfer → List Bool
 setUpTests t = limitsHold t ∷ t .write ∷ []
 
-abbrev pub setUpWriteOf : Transfer → Outcome Target
+abbrev pub setUpWriteOf : Transfer → Result Target
 setUpWriteOf t = granted (all (setUpTests t)) (startOf t)
 
 -- what the set-up answers: the record, or a number
-abbrev pub made : Setup → Outcome Target
-made (Ready x) = Outcome.value x
-made (Refused why) = Outcome.number (refusalNumber why)
+abbrev pub made : WriteSetup → Result Target
+made (Ready x) = Result.value x
+made (Refused why) = Result.number (refusalNumber why)
 
 -- what an event leaves and answers
-abbrev pub stepped : Stepped → Left Target
+abbrev pub stepped : WriteStepped → Left Target
 stepped y = y .target saying says (y .answer)

@@ -10,7 +10,7 @@ use Rattle.frame.specs.Format.{XFER-RDY, encode}
 use Rattle.frame.specs.Write.{hands}
 use Rattle.frame.specs.XferRdy.{xferRdyBytes}
 use Rattle.frame.specs.declared.types.Header.{Header}
-use Rattle.receiver.specs.Record.{beginning}
+use Rattle.receiver_steps.specs.Record.{beginning}
 use Rattle.target.specs.Fields.{receiver≔, state≔, tptt≔, retries≔, since≔}
 use Rattle.target.specs.Tag.{lowest, used}
 use Rattle.target.specs.Record.{UNANSWERED, AGAIN, holdsOf}
@@ -42,7 +42,7 @@ issuedOf x = burstOf x with state≔ UNANSWERED with tptt≔ (lowest (used (x .s
 unfoldable pub xferRdyHeader : Target → Bool → Header
 xferRdyHeader y again =
     record {
-      kind = XFER-RDY;
+      frametype = XFER-RDY;
       dest = y .receiver .transfer .remote;
       source = y .receiver .transfer .local;
       flags = record { tlr = 0; retry = ltb 0 (y .receiver .transfer .limit); retransmit = again; cdp = false };
@@ -62,4 +62,4 @@ abbrev pub handsOf : Target → List ℕ → Left Target
 handsOf x out = hands x (issuedOf x) (frameOf x) out
 
 unfoldable pub nextOf : Target → List ℕ → Left Target
-nextOf x out = unless (entryOf (holdsOf x) (x .receiver .ended)) x (pick (dueOf x) (handsOf x out) (x saying Said.told Word.wait))
+nextOf x out = unless (entryOf (holdsOf x) (x .receiver .ended)) x (pick (dueOf x) (handsOf x out) (x saying Said.word Word.wait))

@@ -4,13 +4,13 @@ ghost use mathlib.Core.Bool.{true, false};
 ghost use lib.ListN.{length, take, drop};
 ghost use Prim.Native.Nat.{_+_, _≤_};
 ghost use Rattle.frame.specs.Read.{headerIn, iuOf};
-ghost use Rattle.receiver.specs.DataFrame.{storing};
-ghost use Rattle.receiver.specs.Record as receiver;
+ghost use Rattle.receiver_steps.specs.DataFrame.{storing};
+ghost use Rattle.receiver_steps.specs.Record as receiver;
 ghost use Rattle.target.specs.Record.{stepped};
 ghost use Rattle.target.specs.Arrival.{freedOf, liftedOf, isCurrent, takenOf, lentOf, writeArrivalOf};
 use crate::record;
-use crate::types::Stepped;
 use crate::types::Target;
+use crate::types::WriteStepped;
 use arrival::Accepted;
 use arrival::Arrived;
 use arrival::Role;
@@ -30,19 +30,19 @@ fn freed(mut x: Target) -> Target
 }
 
 // The receiving port's answer.
-fn lift(mut x: Target, z: receiver::Stepped) -> Stepped
+fn lift(mut x: Target, z: receiver::Stepped) -> WriteStepped
     ensures { λ y. ⌜ stepped y ≡ liftedOf x (receiver.stepped z) ⌝ }
 {
     let r = z.receiver;
     let a = z.answer;
     x.receiver = r;
     if a.stores() {
-        return Stepped {
+        return WriteStepped {
             target: freed(x),
             answer: a,
         };
     }
-    Stepped {
+    WriteStepped {
         target: x,
         answer: a,
     }
@@ -56,7 +56,7 @@ fn is_current(x: Target, h: Header) -> bool
 }
 
 // Behind 1 and 2, DATA that has passed 5 to 7 and the tag: 8 for its transfer tag; discarded until the XFER_RDY's ACK, then the receiving port's.
-fn take(x: Target, a: Arrived, bytes: &[u8], buffer: &mut [u8]) -> Stepped
+fn take(x: Target, a: Arrived, bytes: &[u8], buffer: &mut [u8]) -> WriteStepped
     requires { ⌜ (a .start + a .len ≤ length (now bytes)) × (lentOf x (length (now buffer)) ≡ true) × (x .receiver .ended ≡ false) ⌝ }
     ensures { λ y. ⌜ (stepped y ≡ takenOf x a (length (now (buffer .entry)))) × (now (buffer .exit) ≡ storing (takenOf x a (length (now (buffer .entry))) .says) (a .header .offset) (take (a .len) (drop (a .start) (now (bytes .entry)))) (now (buffer .entry))) ⌝ }
 {
@@ -65,7 +65,7 @@ fn take(x: Target, a: Arrived, bytes: &[u8], buffer: &mut [u8]) -> Stepped
         return record::refused(x, Refusal::UnknownTag);
     }
     if x.state != Target::READY {
-        return Stepped {
+        return WriteStepped {
             target: x,
             answer: Answer::Discarded,
         };
@@ -76,7 +76,7 @@ fn take(x: Target, a: Arrived, bytes: &[u8], buffer: &mut [u8]) -> Stepped
     let r = x.receiver;
     lift(
         x,
-        receiver::data_step(r, h.offset, flags.cdp, &bytes[start..past], buffer),
+        receiver_steps::data_step(r, h.offset, flags.cdp, &bytes[start..past], buffer),
     )
 }
 
@@ -90,7 +90,7 @@ fn lent(x: Target, n: usize) -> bool
 }
 
 // 1, 2, 5, 6, 7, 8 (tag, then TPTT); discarded (no ACK yet); then as the receiving port: discarded (filled), 20, 21, 22, discarded, stored or received.
-pub fn write_frame_received(x: Target, bytes: &[u8], buffer: &mut [u8]) -> Stepped
+pub fn write_frame_received(x: Target, bytes: &[u8], buffer: &mut [u8]) -> WriteStepped
     ensures { λ y. ⌜ (stepped y ≡ writeArrivalOf x (now (bytes .entry)) (length (now (buffer .entry)))) × (now (buffer .exit) ≡ storing (writeArrivalOf x (now (bytes .entry)) (length (now (buffer .entry))) .says) (headerIn (now (bytes .entry)) .offset) (iuOf (now (bytes .entry))) (now (buffer .entry))) ⌝ }
 {
     let ok = lent(x, buffer.len());

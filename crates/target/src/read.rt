@@ -1,6 +1,6 @@
 // Arrivals at the target of a read command: it takes none.
 ghost use mathlib.Core.Path.{_≡_};
-ghost use Rattle.sender.specs.Record.{stepped};
+ghost use Rattle.sender_steps.specs.Record.{stepped};
 ghost use Rattle.target.specs.Read.{readArrivalOf};
 use arrival::Accepted;
 use arrival::Role;
@@ -13,7 +13,7 @@ use status::Refusal;
 pub fn read_frame_received(s: Sender, bytes: &[u8]) -> sender::Stepped
     ensures { λ r. ⌜ stepped r ≡ readArrivalOf s (now (bytes .entry)) ⌝ }
 {
-    let holds = sender::holds(s);
+    let holds = sender_steps::holds(s);
     let t = s.transfer;
     match status::admit(holds & !t.write, s.ended) {
         Entry::Closed(why) => sender::Stepped {

@@ -1,12 +1,12 @@
-// A read's frames asked for at the target and the answers to them: the sending port's, for a read's record; a write's is 1.
+// A read's frames asked for at the target and their confirmations: the sending port's, for a read's record; a write's is 1.
 ghost use Prim.Native.Nat.{ℕ};
 ghost use mathlib.Core.List.{List, []};
 ghost use mathlib.Core.Path.{_≡_};
 ghost use Rattle.status.specs.Answer.{Said, _saying_};
 ghost use Rattle.frame.specs.Write.{handing};
-ghost use Rattle.sender.specs.Count.{Counts};
-ghost use Rattle.sender.specs.Record.{stepped};
-ghost use Rattle.sender.specs.Transmit.{frameOf};
+ghost use Rattle.sender_steps.specs.Count.{Counts};
+ghost use Rattle.sender_steps.specs.Record.{stepped};
+ghost use Rattle.sender_steps.specs.Transmit.{frameOf};
 ghost use Rattle.target.specs.ReadSend.{readNextOf, readAckOf, readNakOf, readTimeoutOf, readCutOf, readLossOf};
 use sender::Sender;
 use status::Answer;

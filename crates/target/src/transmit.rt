@@ -7,8 +7,8 @@ ghost use Rattle.target.specs.Record.{holdsOf, stepped};
 ghost use Rattle.target.specs.Transmit.{dueOf, burstEnd, nextBurst, burstOf, issuedOf, xferRdyHeader, xferRdyIu, frameOf, handsOf, nextOf};
 use crate::record;
 use crate::tag;
-use crate::types::Stepped;
 use crate::types::Target;
+use crate::types::WriteStepped;
 use frame::Flags;
 use frame::Header;
 use frame::Written;
@@ -49,7 +49,7 @@ fn next_burst(mut x: Target) -> Target
     let end = burst_end(x);
     let r = x.receiver;
     let t = r.transfer;
-    let next = receiver::begin(t, r.end, end);
+    let next = receiver_steps::begin(t, r.end, end);
     x.receiver = next;
     x.retries = 0;
     x
@@ -87,7 +87,7 @@ fn header(y: Target, again: bool) -> Header
     let r = y.receiver;
     let t = r.transfer;
     Header {
-        kind: frame::XFER_RDY,
+        frametype: frame::XFER_RDY,
         dest: t.remote,
         source: t.local,
         flags: Flags {
@@ -114,7 +114,7 @@ fn iu(y: Target) -> [u8; 12]
 }
 
 // An XFER_RDY is due: it goes out, or the output buffer is too short.
-fn transmit(x: Target, out: &mut [u8]) -> Stepped
+fn transmit(x: Target, out: &mut [u8]) -> WriteStepped
     requires { ⌜ holdsOf x ≡ true ⌝ }
     ensures { λ r. ⌜ (stepped r ≡ handsOf x (now (out .entry))) × (now (out .exit) ≡ handing (handsOf x (now (out .entry)) .says) (frameOf x) (now (out .entry))) ⌝ }
 {
@@ -122,7 +122,7 @@ fn transmit(x: Target, out: &mut [u8]) -> Stepped
     let bytes = iu(y);
     let written = frame::write(header(y, x.state == Target::AGAIN), &bytes, out);
     match written {
-        Written::Frame(length) => Stepped {
+        Written::Frame(length) => WriteStepped {
             target: y,
             answer: Answer::Frame(length),
         },
@@ -131,7 +131,7 @@ fn transmit(x: Target, out: &mut [u8]) -> Stepped
 }
 
 // 1, 2; wait; 3, else an XFER_RDY of that length.
-pub fn next_frame(x: Target, out: &mut [u8]) -> Stepped
+pub fn write_next_frame(x: Target, out: &mut [u8]) -> WriteStepped
     ensures { λ r. ⌜ (stepped r ≡ nextOf x (now (out .entry))) × (now (out .exit) ≡ handing (nextOf x (now (out .entry)) .says) (frameOf x) (now (out .entry))) ⌝ }
 {
     let ok = record::holds(x);
@@ -142,7 +142,7 @@ pub fn next_frame(x: Target, out: &mut [u8]) -> Stepped
             if is_due(x) {
                 transmit(x, out)
             } else {
-                Stepped {
+                WriteStepped {
                     target: x,
                     answer: Answer::Wait,
                 }

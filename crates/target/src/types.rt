@@ -23,7 +23,7 @@ impl Target {
     // none was handed out yet
     pub const NONE: u8 = 0;
 
-    // its answer is due
+    // its confirmation is due
     pub const UNANSWERED: u8 = 1;
 
     // it is to be sent again
@@ -34,12 +34,12 @@ impl Target {
 }
 
 // What an event leaves and answers. A refusal leaves the record as it was.
-pub struct Stepped {
+pub struct WriteStepped {
     pub target: Target,
     pub answer: Answer,
 }
 
-pub enum Setup {
+pub enum WriteSetup {
     Ready(Target),
     Refused(Refusal),
 }

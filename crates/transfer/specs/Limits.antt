@@ -6,7 +6,7 @@ use mathlib.Core.List.{List, [], _∷_}
 use lib.Dec.{leb, eqb}
 use Rattle.status.specs.Pick.{all}
 use Rattle.status.specs.Number.{refusalNumber}
-use Rattle.status.specs.Outcome.{Outcome, granted}
+use Rattle.status.specs.Result.{Result, granted}
 use Rattle.transfer.specs.declared.Transfer.{Transfer}
 use Rattle.transfer.specs.declared.Made.{Made}
 use Rattle.transfer.specs.declared.Made.the-variants.{Taken, Refused}
@@ -24,10 +24,10 @@ unfoldable pub limitsHold : Transfer → Bool
 limitsHold t = all (limits t)
 
 -- what the constructor answers: the transfer, or a number
-abbrev pub made : Made → Outcome Transfer
-made (Taken t) = Outcome.value t
-made (Refused why) = Outcome.number (refusalNumber why)
+abbrev pub made : Made → Result Transfer
+made (Taken t) = Result.value t
+made (Refused why) = Result.number (refusalNumber why)
 
 -- a transfer outside the limits is 1
-abbrev pub madeOf : Transfer → Outcome Transfer
+abbrev pub madeOf : Transfer → Result Transfer
 madeOf t = granted (limitsHold t) t

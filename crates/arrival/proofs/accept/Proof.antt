@@ -13,7 +13,7 @@ returns-2 : tie.Need-returns-2
 unfolding acceptOf
 returns-2 c =
     let p = c .before .before .before .before in
-    rw (sym (p .before .before .read .ensures) ∙ ap decoded (p .p .given .1)) (rw (c .before .kind-of .ensures) at (c .screen .ensures))
+    rw (sym (p .before .before .read .ensures) ∙ ap decoded (p .p .given .1)) (rw (c .before .class-of .ensures) at (c .screen .ensures))
 
 pub accept-spec : {M : Type 1} → statement M
 accept-spec = tie.close (tie.spec (λ c κs. search needs) (λ c. search needs) (λ c. search needs) (λ c κs. search needs) (λ c κs. search needs) returns returns-2)

@@ -6,7 +6,7 @@ use Rattle.status.proofs.Opened.{opened}
 use Rattle.arrival.proofs.Passed.{passed}
 use Rattle.arrival.specs.Accept.{accepted}
 use Rattle.arrival.specs.declared.Role.the-variants.{ReadInitiator}
-use Rattle.initiator.proofs.ReadTold.{told, taken-is}
+use Rattle.initiator.proofs.ReadReturns.{told, taken-is}
 use Rattle.initiator.specs.Read.{readLentOf, readArrivalOf}
 use Rattle.initiator.proofs.read.read_frame_received.Statement.{statement}
 use Rattle.initiator.proofs.read.read_frame_received.Tie as tie

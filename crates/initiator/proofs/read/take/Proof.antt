@@ -2,7 +2,7 @@ use borrow.Author.Needs.{needs}
 use denote.Ref.{now}
 use mathlib.Core.Path.{refl, sym, ap, _∙_}
 use Rattle.arrival.proofs.Passed.{part}
-use Rattle.initiator.proofs.ReadTold.{data-is, not-expected-leaves, response-leaves}
+use Rattle.initiator.proofs.ReadReturns.{data-is, not-expected-leaves, response-leaves}
 use Rattle.initiator.proofs.read.take.Statement.{statement}
 use Rattle.initiator.proofs.read.take.Tie as tie
 

@@ -5,7 +5,7 @@ use Rattle.initiator.proofs.write_send.write_connection_lost.Statement.
 use Rattle.initiator.proofs.write_send.write_connection_lost.Tie as tie
 
 returns : tie.Need-returns
-returns c = both (c .before .before .before .args .w) [] (rw ((c .before .connection-lost .ensures .0)) at (c .answered .ensures)) (cut-counts (c .before .before .before .args .w))
+returns c = both (c .before .before .before .args .w) [] (rw ((c .before .connection-lost .ensures .0)) at (c .confirmed .ensures)) (cut-counts (c .before .before .before .args .w))
 
 pub write-connection-lost-spec : {M : Type 1} → statement M
 write-connection-lost-spec = tie.close (tie.spec (λ c κs. search needs) (λ c κs. search needs) returns)

@@ -2,11 +2,11 @@ use borrow.Author.Needs.{needs}
 use denote.Ref.{now}
 use mathlib.Core.Path.{refl, sym, ap, _∙_}
 use Rattle.status.proofs.Opened.{opened}
-use Rattle.initiator.proofs.WriteTold.{told, kept-says}
+use Rattle.initiator.proofs.WriteReturns.{told, kept-says}
 use Rattle.initiator.proofs.WriteSteps.{begun-starts, begun-same, first-is, served-is}
 use Rattle.initiator.specs.WriteRecord.{startsOf}
 use Rattle.initiator.specs.WriteSend.{reachedOf, nextOf}
-use Rattle.sender.specs.Step.{frameStepOf}
+use Rattle.sender_steps.specs.Transmit.{frameStepOf}
 use Rattle.status.specs.Pick.{pick}
 use Rattle.initiator.proofs.write_send.write_next_frame.Statement.{statement}
 use Rattle.initiator.proofs.write_send.write_next_frame.Tie as tie

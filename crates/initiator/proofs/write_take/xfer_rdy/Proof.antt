@@ -4,7 +4,7 @@ use mathlib.Core.Path.{refl, sym, ap, _∙_}
 use Rattle.frame.specs.XferRdy.{xferRdyRead}
 use Rattle.initiator.proofs.WriteFits.{end-fits}
 use Rattle.initiator.specs.WriteTake.{xferRdyTaken, burstTaken}
-use Rattle.initiator.specs.declared.types.Verdict.the-variants.{Next, Repeat}
+use Rattle.initiator.specs.declared.types.XferRdyDisposition.the-variants.{Next, Repeat}
 use Rattle.initiator.proofs.write_take.xfer_rdy.Statement.{statement}
 use Rattle.initiator.proofs.write_take.xfer_rdy.Tie as tie
 

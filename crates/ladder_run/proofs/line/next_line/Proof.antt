@@ -1,5 +1,5 @@
 use denote.Ref.{now}
-use Rattle.ladder_run.proofs.Told.{line-row, line-after}
+use Rattle.ladder_run.proofs.Leaves.{line-row, line-after}
 use borrow.Author.Needs.{needs}
 use Rattle.ladder_run.proofs.line.next_line.Statement.{statement}
 use Rattle.ladder_run.proofs.line.next_line.Tie as tie

@@ -4,7 +4,7 @@ use borrow.Author.Tests.{not-true, not-false}
 use Rattle.link.specs.Ports.{Called}
 use Rattle.ladder_run.specs.Row.{handed}
 use Rattle.ladder_run.specs.declared.types.Sending.{Sending}
-use Rattle.ladder_run.proofs.Told.{open-less, out-closed, out-none, out-some}
+use Rattle.ladder_run.proofs.Leaves.{open-less, out-closed, out-none, out-some}
 use Rattle.ladder_run.proofs.Handed.{area-most}
 use borrow.Author.Needs.{needs}
 use Rattle.ladder_run.proofs.row.frame_out.Statement.{statement}

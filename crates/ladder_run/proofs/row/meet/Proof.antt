@@ -2,7 +2,7 @@ use mathlib.Core.Path.{ap}
 use denote.Ref.{now}
 use Rattle.ladder_run.specs.declared.types.Met.{Met}
 use Rattle.ladder_text.specs.declared.types.Receipt.{Receipt}
-use Rattle.ladder_run.proofs.Told.{met-whole, met-none}
+use Rattle.ladder_run.proofs.Leaves.{met-whole, met-none}
 use borrow.Author.Needs.{needs}
 use Rattle.ladder_run.proofs.row.meet.Statement.{statement}
 use Rattle.ladder_run.proofs.row.meet.Tie as tie

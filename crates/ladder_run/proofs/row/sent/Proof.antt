@@ -1,5 +1,5 @@
 use denote.Ref.{now}
-use Rattle.ladder_run.proofs.Told.{sent-is}
+use Rattle.ladder_run.proofs.Leaves.{sent-is}
 use borrow.Author.Needs.{needs}
 use Rattle.ladder_run.proofs.row.sent.Statement.{statement}
 use Rattle.ladder_run.proofs.row.sent.Tie as tie

@@ -2,7 +2,7 @@ use mathlib.Core.Path.{_≡_, sym, ap, _∙_}
 use native.Mathlib.Omega.{arith}
 use Rattle.frame.specs.Read.{decoded}
 use Rattle.ladder_run.specs.Row.{shownOf}
-use Rattle.ladder_run.proofs.Told.{few-bytes}
+use Rattle.ladder_run.proofs.Leaves.{few-bytes}
 use borrow.Author.Needs.{needs}
 use Rattle.ladder_run.proofs.row.shown.Statement.{statement}
 use Rattle.ladder_run.proofs.row.shown.Tie as tie

@@ -1,14 +1,14 @@
 use borrow.Author.Needs.{needs}
 use mathlib.Core.Path.{refl, ap}
-use Rattle.status.specs.Outcome.{Outcome, granted}
+use Rattle.status.specs.Result.{Result, granted}
 use Rattle.status.proofs.Choose.{in-true, in-false}
-use Rattle.receiver.specs.declared.types.Receiver.{Receiver}
+use Rattle.receiver_steps.specs.declared.types.Receiver.{Receiver}
 use Rattle.receiver.proofs.record.set_up_read.Statement.{statement}
 use Rattle.receiver.proofs.record.set_up_read.Tie as tie
 
 returns : tie.Need-returns
 unfolding granted
-returns c = in-true _ _ _ _ (rw (c .before .before .before .limits-hold .ensures) at (c .before .if1 .taken)) (ap (λ (r : Receiver). Outcome.value r) (c .begin .ensures))
+returns c = in-true _ _ _ _ (rw (c .before .before .before .limits-hold .ensures) at (c .before .if1 .taken)) (ap (λ (r : Receiver). Result.value r) (c .begin .ensures))
 
 returns-2 : tie.Need-returns-2
 unfolding granted

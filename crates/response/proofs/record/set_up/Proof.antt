@@ -1,7 +1,7 @@
 use borrow.Author.Needs.{needs}
 use mathlib.Core.Path.{refl}
 use Rattle.status.proofs.Choose.{in-true, in-false}
-use Rattle.status.specs.Outcome.{granted}
+use Rattle.status.specs.Result.{granted}
 use Rattle.response.proofs.record.set_up.Statement.{statement}
 use Rattle.response.proofs.record.set_up.Tie as tie
 

@@ -1,9 +1,8 @@
 use borrow.Author.Needs.{needs}
 use mathlib.Core.Path.{refl, sym, ap, _∙_}
 use denote.Ref.{now}
-use Rattle.frame.specs.Write.{written}
+use Rattle.frame.specs.Write.{written, answered}
 use Rattle.frame.specs.declared.types.Written.{Written}
-use Rattle.frame.specs.Write.{answered}
 use Rattle.frame.proofs.Hands.{handed}
 use Rattle.response.specs.Transmit.{responseHeader, frameOf, sentOf}
 use Rattle.response.proofs.Due.{can-write}

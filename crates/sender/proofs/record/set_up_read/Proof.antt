@@ -1,14 +1,14 @@
 use borrow.Author.Needs.{needs}
 use mathlib.Core.Path.{refl, ap}
-use Rattle.status.specs.Outcome.{Outcome, granted}
+use Rattle.status.specs.Result.{Result, granted}
 use Rattle.status.proofs.Choose.{in-true, in-false}
-use Rattle.sender.specs.declared.types.Sender.{Sender}
+use Rattle.sender_steps.specs.declared.types.Sender.{Sender}
 use Rattle.sender.proofs.record.set_up_read.Statement.{statement}
 use Rattle.sender.proofs.record.set_up_read.Tie as tie
 
 returns : tie.Need-returns
 unfolding granted
-returns c = in-true _ _ _ _ (rw (c .before .before .before .limits-hold .ensures) at (c .before .if1 .taken)) (ap (λ (s : Sender). Outcome.value s) (c .begin .ensures))
+returns c = in-true _ _ _ _ (rw (c .before .before .before .limits-hold .ensures) at (c .before .if1 .taken)) (ap (λ (s : Sender). Result.value s) (c .begin .ensures))
 
 returns-2 : tie.Need-returns-2
 unfolding granted

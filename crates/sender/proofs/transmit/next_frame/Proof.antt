@@ -1,8 +1,7 @@
 use borrow.Author.Needs.{needs}
-use Rattle.status.proofs.Opened.{entry-is}
+use Rattle.status.proofs.Opened.{entry-is, opened}
 use mathlib.Core.Path.{refl, sym, _∙_}
 use denote.Ref.{now}
-use Rattle.status.proofs.Opened.{opened}
 use Rattle.sender.proofs.Steps.{next-step}
 use Rattle.sender.proofs.Next.{next-closed, told}
 use Rattle.sender.proofs.transmit.next_frame.Statement.{statement}

@@ -11,7 +11,7 @@ use Rattle.arrival.specs.Accept.{accepted}
 use Rattle.arrival.specs.declared.Role.the-variants.{WriteTarget}
 use Rattle.arrival.specs.declared.Arrived.{Arrived}
 use Rattle.arrival.proofs.Passed.{Passed, passed}
-use Rattle.receiver.specs.DataFrame.{storing}
+use Rattle.receiver_steps.specs.DataFrame.{storing}
 use Rattle.target.specs.Arrival.{takenOf, writeArrivalOf}
 use Rattle.target.specs.declared.types.Target.{Target}
 use Rattle.target.proofs.incoming.write_frame_received.Statement.{statement}

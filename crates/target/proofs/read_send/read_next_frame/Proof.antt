@@ -3,8 +3,8 @@ use mathlib.Core.Path.{refl, sym, ap, _∙_}
 use denote.Ref.{now}
 use Rattle.status.specs.Answer.{Left}
 use Rattle.frame.specs.Write.{handing}
-use Rattle.sender.specs.Transmit.{frameOf}
-use Rattle.sender.specs.declared.types.Sender.{Sender}
+use Rattle.sender_steps.specs.Transmit.{frameOf}
+use Rattle.sender_steps.specs.declared.types.Sender.{Sender}
 use Rattle.target.proofs.ReadSteps.{only-write, only-read}
 use Rattle.target.proofs.read_send.read_next_frame.Statement.{statement}
 use Rattle.target.proofs.read_send.read_next_frame.Tie as tie

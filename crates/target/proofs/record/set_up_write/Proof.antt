@@ -1,6 +1,6 @@
 use borrow.Author.Needs.{needs}
 use mathlib.Core.Path.{refl}
-use Rattle.status.specs.Outcome.{granted}
+use Rattle.status.specs.Result.{granted}
 use Rattle.status.proofs.Choose.{in-true, in-false}
 use Rattle.target.proofs.record.set_up_write.Statement.{statement}
 use Rattle.target.proofs.record.set_up_write.Tie as tie

@@ -2,9 +2,8 @@ use borrow.Author.Needs.{needs}
 use mathlib.Core.Path.{sym, ap, _∙_}
 use denote.Ref.{now}
 use lib.Dec.{eqb}
-use Rattle.frame.specs.Write.{written}
+use Rattle.frame.specs.Write.{written, answered}
 use Rattle.frame.specs.declared.types.Written.{Written}
-use Rattle.frame.specs.Write.{answered}
 use Rattle.frame.proofs.Hands.{handed}
 use Rattle.target.specs.Record.{AGAIN}
 use Rattle.target.specs.Transmit.{issuedOf, xferRdyHeader, xferRdyIu, frameOf}

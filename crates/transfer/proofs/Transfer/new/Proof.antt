@@ -1,6 +1,6 @@
 use borrow.Author.Needs.{needs}
 use Rattle.status.proofs.Choose.{choose}
-use Rattle.status.specs.Outcome.{granted}
+use Rattle.status.specs.Result.{granted}
 use Rattle.transfer.proofs.Transfer.new.Statement.{statement}
 use Rattle.transfer.proofs.Transfer.new.Tie as tie
 

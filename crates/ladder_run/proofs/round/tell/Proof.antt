@@ -1,9 +1,0 @@
-use borrow.Author.Needs.{needs}
-use Rattle.ladder_run.proofs.round.tell.Statement.{statement}
-use Rattle.ladder_run.proofs.round.tell.Tie as tie
-
-returns : tie.Need-returns
-returns c = rw (c .first .ensures, c .before .reports .ensures)
-
-pub tell-spec : {M : Type 1} → statement M
-tell-spec = tie.close (tie.spec (λ c κs. search needs) (λ c κs. search needs) returns)

@@ -1,0 +1,4 @@
+pub mod Held
+pub mod Judged
+pub mod Buffer
+pub mod Ended

@@ -1,0 +1,11 @@
+use borrow.Author.Needs.{needs}
+use Rattle.receiver_steps.specs.Record.{tests, holdsOf}
+use Rattle.receiver_steps.proofs.record.holds.Statement.{statement}
+use Rattle.receiver_steps.proofs.record.holds.Tie as tie
+
+returns : tie.Need-returns
+unfolding holdsOf tests
+returns c = simp (c .before .before .before .before .before .limits-hold .ensures)
+
+pub holds-spec : {M : Type 1} → statement M
+holds-spec = tie.close (tie.spec (λ c κs. search needs) returns)

@@ -1,0 +1,5 @@
+pub mod Held
+pub mod Due
+pub mod Fits
+pub mod Counting
+pub mod Ended

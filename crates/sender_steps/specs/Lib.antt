@@ -1,0 +1,5 @@
+pub mod Fields
+pub mod Record
+pub mod Transmit
+pub mod Count
+pub mod Confirmation

@@ -1,0 +1,11 @@
+pub mod ReadComputes
+pub mod WriteComputes
+pub mod Run
+pub mod Read
+pub mod Faults
+pub mod Write
+pub mod Crossing
+pub mod Repeat
+pub mod Response
+pub mod Rungs
+pub mod Ladders

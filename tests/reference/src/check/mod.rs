@@ -1,0 +1,26 @@
+//! What compares the library with the reference.
+pub mod bursts;
+mod forged;
+pub mod headers;
+pub mod ladders;
+pub mod made_up;
+pub mod opened;
+mod opened_iu;
+mod opened_part;
+mod opened_ports;
+mod opened_runs;
+mod opened_vectors;
+pub mod pair;
+pub mod resent;
+mod resent_runs;
+mod resent_walk;
+pub mod rng;
+pub mod single;
+pub mod sources;
+pub mod states;
+pub mod steps;
+pub mod tlr;
+mod tlr_ports;
+pub mod tree;
+pub mod vectors;
+pub mod world;
