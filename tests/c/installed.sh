@@ -27,7 +27,13 @@ cat >"$tmp/list" <<'END'
 644 include/ssp/version.h
 644 lib/libssp.a
 644 lib/pkgconfig/ssp.pc
+644 share/man/man1/ladder.1
+644 share/ssp/ladder.draw.awk
+644 share/ssp/ladder.explain.awk
+644 share/ssp/ladder.help
 755 bin/ladder
+755 libexec/ssp/ladder
+755 share/ssp/text_program
 END
 # installed FOLDER: exactly these files are in it.
 installed() { find "$1" -type f -printf '%m %P\n' | sort | diff -u --label expected --label installed -- "$tmp/list" -; }
@@ -62,5 +68,30 @@ outside write "$tmp/moved elsewhere" c++11
 # ---- its version, its program ----
 printf '#include "ssp.h"\nSSP_VERSION_STRING\n' | "$cc" -E -P -I"$root/include" - 2>/dev/null | tail -n 1 | tr -d '"' >"$tmp/version"
 prints 'the version in ssp.pc' "$tmp/version" env PKG_CONFIG_PATH="$tmp/moved elsewhere/lib/pkgconfig" pkg-config --modversion ssp
-paper() { "$tmp/moved elsewhere/bin/ladder" <"$root/tests/ladder/paper_example.run"; }
-tries "the paper's example by the installed ladder" diff -- "$root/tests/ladder/paper_example.ladder" <(paper) || true
+
+# ---- the installed ladder: from another folder, by a symbolic link, without the repository and without rt ----
+mkdir -p -- "$tmp/bin"
+ln -s -- "$tmp/moved elsewhere/bin/ladder" "$tmp/bin/ladder"
+pairs=$root/tests/ladder
+# ladder WANTED_STATUS ARGUMENT...: standard output to $tmp/ladder_out, standard error to $tmp/ladder_err.
+ladder() {
+  local wanted=$1 status=0
+  shift
+  env -i -C "$tmp/bin" PATH="$tmp/bin:/usr/bin:/bin" ladder "$@" >"$tmp/ladder_out" 2>"$tmp/ladder_err" || status=$?
+  ((status == wanted)) || { printf 'status %d\n' "$status" && return 1; }
+}
+installed_ladder() {
+  ladder 0 "$pairs/paper_example.run" && diff -- "$pairs/paper_example.ladder" "$tmp/ladder_out" && diff -- /dev/null "$tmp/ladder_err"
+}
+installed_draw() { ladder 0 --draw "$pairs/paper_example.run" && diff -- "$pairs/paper_example.drawing" "$tmp/ladder_out"; }
+installed_svg() { ladder 0 --svg "$root/examples/acks_slide.run" && diff -- "$root/docs/ladder.svg" "$tmp/ladder_out"; }
+installed_help() { ladder 0 --help && diff -- "$root/share/ladder.help" "$tmp/ladder_out"; }
+installed_refusal() {
+  ladder 1 "$pairs/refused_size_6.run" && diff -- "$pairs/refused_size_6.ladder" "$tmp/ladder_out" && grep -q 'not a multiple of four' "$tmp/ladder_err"
+}
+tries "the paper's example by the installed ladder" installed_ladder || true
+tries 'the installed ladder draws it' installed_draw || true
+tries 'the installed ladder draws a picture' installed_svg || true
+tries 'the installed ladder helps' installed_help || true
+tries 'the installed ladder explains a refusal' installed_refusal || true
+tries 'the installed man page' diff -- "$root/man/ladder.1" "$tmp/moved elsewhere/share/man/man1/ladder.1" || true
