@@ -98,7 +98,7 @@ function round_ends(i, naks, missing, why) {
     used_up = ++retries > limit
     round_ends_with("bad", why ": " (!used_up ? "retry " retries " of " limit : limit > 0 ? "retry limit " limit " used up" : "retries are off"))
   } else if (write) {
-    round_ends_with("good", "all ACKed")
+    round_ends_with("good", "all ACKed" (limit > 0 && next_offset < count ? ": a retry still returns to 0" : ""))
   } else {
     balance = next_offset
     retries = 0
@@ -113,11 +113,15 @@ function head(title) {
     svg_head(title)
     return
   }
-  print title "\n"
+  print title
+  print "== CDP one, .. ACK or NAK, x lost, # damaged\n"
   names(write ? "initiator" : "target", write ? "target" : "initiator")
   names("sender", "receiver")
-  between("")
-  if (write) between("  XFER_RDY for all of it, ACKed before")
+  columns()
+  if (write) {
+    between("  XFER_RDY for the whole transfer,")
+    between("  ACKed before the first frame")
+  }
 }
 
 function round_starts(what) {
@@ -173,6 +177,9 @@ function of(times, sign, s) {
 
 function between(s) { printf "        |%-" inside "s|\n", s }
 
+# The first line with lifelines names the columns behind them.
+function columns() { printf "        |%s|  %-6s %s\n", of(inside, " "), "fate", "receiver" }
+
 # Each name with its middle over its lifeline.
 function names(a, b, s) {
   s = of(8 - int(length(a) / 2), " ") a
@@ -204,11 +211,11 @@ function svg_head(title) {
   words_at(right, 88, "name", write ? "target" : "initiator")
   words_at(right, 105, "under", "receiver")
   words_at(right + 16, 126, "small", "fate")
-  words_at(right + 76, 126, "small", "receiver\047s answer")
+  words_at(right + 76, 126, "small", "receiver")
   down = 122
   if (write) {
     down += 10
-    words_at((left + right) / 2, down, "label", "XFER_RDY for all of it, ACKed before")
+    words_at((left + right) / 2, down, "label", "XFER_RDY for the whole transfer, ACKed before the first frame")
   }
 }
 

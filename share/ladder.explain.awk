@@ -2,9 +2,11 @@
 
 BEGIN {
   for (i = 1; i < 256; i++) character[i] = sprintf("%c", i)
-  bytes = feed = zero = 0
+  bytes = feed = zero = odd = 0
   longest = 200 # more of a line is not looked at
   text = shown = ""
+  line_one = "read or write, byte count, data size, window and retry limit, separated by single tabs"
+  odd_byte = " a byte that is not printable ASCII"
   split(",byte count,data size,window,retry limit", names, ",")
   split(",1,4,1,0", least, ",")
   split(",65536,1024,64,15", most, ",")
@@ -19,6 +21,7 @@ BEGIN {
     bytes++
     if (bytes > longest) continue
     if ($i == 0) zero = 1
+    if (!odd && ($i > 126 || ($i < 32 && $i != 9))) odd = bytes
     text = text ($i == 0 ? "?" : character[$i])
     if (bytes <= 60) shown = shown visible($i + 0)
   }
@@ -32,24 +35,27 @@ END {
 function visible(c) {
   if (c == 9) return "\\t"
   if (c == 13) return "\\r"
-  if (c < 32 || c > 126 || c == 92) return sprintf("\\%03o", c)
+  if (c == 92) return "\\\\"
+  if (c < 32 || c > 126) return sprintf("\\%03o", c)
   return character[c]
 }
 
 function why() {
-  if (bytes == 0 && !feed) return "the input is empty; line one is read or write, byte count, data size, window and retry limit, with tabs between them"
+  if (bytes == 0 && !feed) return "the input is empty; line one is " line_one
   if (bytes == 0) return "it is empty; an empty line is refused at the end of the file too"
-  if (substr(text, 1, 3) == character[239] character[187] character[191]) return "a byte order mark stands in front of it; save the file without one"
+  if (substr(text, 1, 3) == character[239] character[187] character[191]) return "it starts with a byte order mark, three bytes that some editors write; save the file without it"
   if (bytes <= longest && substr(text, bytes, 1) == "\r") return "it ends with a carriage return; lines end with a line feed alone"
   if (index(text, "\r")) return "there is a carriage return inside it; lines end with a line feed alone"
   if (zero) return "there is a zero byte in it; save the file as plain text"
   if (bytes > longest) return "it is too long, " bytes " bytes"
+  if (index(text, "#")) return "there is a # in it; comments are not allowed"
   return number == 1 ? why_line_one() : why_fate()
 }
 
 function why_fate(low) {
   low = tolower(text)
   gsub(/[ \t]/, "", low)
+  if (odd) return (substr(text, 1, odd - 1) ~ /^(ok|noack|bad|nonak|lost)[ \t]*$/ ? "behind the fate there is" : "there is") odd_byte
   if (text ~ /^[ \t]+$/) return "there are only blanks or tabs in it"
   if (low ~ /^(ok|noack|bad|nonak|lost)$/) {
     if (text ~ /^[ \t]/) return "there is a blank or tab in front of the fate"
@@ -63,15 +69,17 @@ function why_fate(low) {
 
 function why_line_one(n, i, fields, empty, wrong) {
   n = split(text, fields, "\t")
+  if (index(text, "\\t")) return "there is a backslash and a t where a tab belongs; printf makes tabs"
   if (index(text, " ")) {
     if (text ~ /^ /) return "there is a blank in front of it"
     if (text ~ / $/) return "there is a blank at its end"
     if (n == 1) return "there are blanks instead of tabs between its fields"
     return "there is a blank in it; between two fields there is one tab and nothing else"
   }
-  if (text ~ /^(ok|noack|bad|nonak|lost)$/) return "it is a fate; line one is read or write, byte count, data size, window and retry limit, with tabs between them"
+  if (text ~ /^(ok|noack|bad|nonak|lost)$/) return "it is a fate; line one is " line_one
+  if (odd && (n != 5 || odd <= length(fields[1]))) return "there is" odd_byte
   for (i = 1; i <= n; i++) if (fields[i] == "") empty = " (field " i " is empty)"
-  if (n != 5) return "it has " n (n == 1 ? " field" : " fields") empty ", not 5: read or write, byte count, data size, window and retry limit, with tabs between them"
+  if (n != 5) return "it has " n (n == 1 ? " field" : " fields") empty ", not 5: " line_one
   if (fields[1] == "") return "its first field is empty; it is read or write"
   if (fields[1] !~ /^(read|write)$/) {
     if (tolower(fields[1]) ~ /^(read|write)$/) return "read and write are written in lower case"

@@ -1,4 +1,4 @@
-/* Inline helpers over ssp.h; include that. They are plain C and not part of the archive: no proof speaks of them, tests/c/helpers.c tries them. */
+/* Inline helpers for ssp.h; include that. They are plain C and not part of the archive: they are tested by tests/c/helpers.c, not proved. */
 #ifndef SSP_HELPERS_H
 #define SSP_HELPERS_H
 
@@ -8,16 +8,16 @@
 extern "C" {
 #endif
 
-/* What ssp_read_transfer and ssp_write_transfer set where the caller gives nothing. Change the field afterwards: `transfer.window = 3;`. Give both
- * ports the same values. */
+/* Defaults that ssp_read_transfer and ssp_write_transfer set. Change a field afterwards: `transfer.window = 3;`. Both ports need the same
+ * values. */
 enum ssp_default {
-    SSP_DEFAULT_SIZE = 1024,    /* the most that a frame holds: the fewest frames */
-    SSP_DEFAULT_WINDOW = 8,     /* frames go out while confirmations of earlier ones are on the way */
+    SSP_DEFAULT_SIZE = 1024,    /* the most that a frame holds, so the fewest frames */
+    SSP_DEFAULT_WINDOW = 8,     /* frames go out while confirmations of earlier ones are due */
     SSP_DEFAULT_RETRY_LIMIT = 3 /* retries on; the fourth failed attempt at the same data is a failure */
 };
 
-/* A read of count bytes at the port with the hashed address local. Every field passes SSP_BAD_REQUEST if count is 1 to 16,777,216 and both
- * addresses have 24 bits. burst, which a read does not use but whose limit holds, is count. */
+/* A read of count bytes at the port with the hashed address local. A set-up takes it if count is 1 to 16,777,216 and both addresses
+ * fit in 24 bits. burst, which a read does not use but whose limit holds, is count. */
 static inline ssp_transfer ssp_read_transfer(uint32_t count, uint32_t local, uint32_t remote, uint16_t tag) {
     ssp_transfer transfer = SSP_ZERO;
     transfer.count = count;
@@ -32,7 +32,7 @@ static inline ssp_transfer ssp_read_transfer(uint32_t count, uint32_t local, uin
     return transfer;
 }
 
-/* A write of count bytes in bursts of at most burst bytes. The same, and burst has to be 1 to count. */
+/* A write of count bytes in bursts of at most burst bytes. As for a read; burst must be 1 to count. */
 static inline ssp_transfer ssp_write_transfer(uint32_t count, uint32_t local, uint32_t remote, uint16_t tag, uint32_t burst) {
     ssp_transfer transfer = ssp_read_transfer(count, local, remote, tag);
     transfer.burst = burst;
@@ -42,7 +42,7 @@ static inline ssp_transfer ssp_write_transfer(uint32_t count, uint32_t local, ui
 
 /* The sense data of a RESPONSE, as a part of the caller's own bytes. Pass the answer of the call that took the RESPONSE and the bytes of that
  * same call: the frame of ssp_read_initiator_frame_received or ssp_write_initiator_frame_received, or the IU of ssp_response_iu_read.
- * Nothing is copied: the part is good while those bytes do not change. The part is empty (len 0) where there are no sense data: for the other
+ * Nothing is copied: the part is valid while those bytes do not change. The part is empty (len 0) where there are no sense data: for the other
  * kinds, after a refusal or a failure, after every other call. Do not use `at` of an empty part. */
 static inline ssp_part ssp_sense(ssp_answer answer, const uint8_t *bytes, size_t bytes_len) {
     ssp_part part;
@@ -52,7 +52,7 @@ static inline ssp_part ssp_sense(ssp_answer answer, const uint8_t *bytes, size_t
     return part;
 }
 
-/* The paper's word for ssp_answer.number: "Bad Request" for SSP_BAD_REQUEST. It is "" for 0 and for every number that is not in enum
+/* Returns the paper's word for ssp_answer.number: "Bad Request" for SSP_BAD_REQUEST; "" for 0 and for every number that is not in enum
  * ssp_number. */
 static inline const char *ssp_number_name(uint8_t number) {
     switch (number) {
@@ -82,7 +82,7 @@ static inline const char *ssp_number_name(uint8_t number) {
     }
 }
 
-/* A word for ssp_answer.what: "retry" for SSP_RETRY. It is "" for every value that is not in enum ssp_what. */
+/* Returns a word for ssp_answer.what: "retry" for SSP_RETRY; "" for every value that is not in enum ssp_what. */
 static inline const char *ssp_what_name(uint8_t what) {
     switch (what) {
     case SSP_REFUSED: return "refused";

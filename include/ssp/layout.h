@@ -1,4 +1,4 @@
-/* The layout that the library was built with: a compiler that lays a record of types.h out otherwise stops here. ssp.h includes this. */
+/* The layout that the library was built with. A compiler that lays out a record of types.h differently stops here. ssp.h includes this. */
 #ifndef SSP_LAYOUT_H
 #define SSP_LAYOUT_H
 

@@ -6,14 +6,14 @@
 #include <stddef.h>
 #include <stdint.h>
 
-/* Sets all of a record to zero, in C and in C++: `ssp_header header = SSP_ZERO;`. */
+/* Sets every field of a record to zero, in C and in C++: `ssp_header header = SSP_ZERO;`. */
 #ifdef __cplusplus
 #define SSP_ZERO {}
 #else
 #define SSP_ZERO {0}
 #endif
 
-/* ssp_answer.number: the numbers of the paper's "Trade words"; 0 where an answer has none. ssp_number_name gives the words. */
+/* ssp_answer.number: the numbers of the paper's "Trade words"; 0 where an answer has none. ssp_number_name returns the words. */
 enum ssp_number {
     /* refusals */
     SSP_BAD_REQUEST = 1,
@@ -41,13 +41,13 @@ enum ssp_number {
     SSP_RESPONSE_DATA_WRONG = 34
 };
 
-/* ssp_answer.what; in brackets the other fields that are set. ssp_what_name gives a word for each. */
+/* ssp_answer.what; in brackets the other fields that are set. ssp_what_name returns a word for each. */
 enum ssp_what {
     SSP_REFUSED = 0,              /* [number: a refusal] nothing changed */
     SSP_FAILED = 1,               /* [number: a failure, frames] the record has ended */
     SSP_WAIT = 2,                 /* no frame is due */
     SSP_FRAME = 3,                /* [len] `len` bytes were written to `out`; after one of the writer's two steps: len of the whole frame */
-    SSP_TAKEN = 4,                /* the event was taken */
+    SSP_TAKEN = 4,                /* the event was taken: ask for frames again */
     SSP_RETRY = 5,                /* a retry begins: ask for frames again */
     SSP_UNCHANGED = 6,            /* the connection was cut with nothing unanswered */
     SSP_DELIVERED = 7,            /* [frames] the read, the write burst or the RESPONSE is delivered; frames is 0 for a RESPONSE */
@@ -55,8 +55,8 @@ enum ssp_what {
     SSP_DISCARDED = 9,            /* DATA was discarded */
     SSP_STORED = 10,              /* DATA was stored */
     SSP_RECEIVED = 11,            /* DATA was stored and filled the burst */
-    SSP_NEXT_BURST = 12,          /* an XFER_RDY for the next burst was taken; there was none before, or its delivery was reported */
-    SSP_NEXT_BURST_DELIVERS = 13, /* [frames] the same; the burst before counts as delivered with it */
+    SSP_NEXT_BURST = 12,          /* an XFER_RDY for the next burst was taken; there was no burst before, or its delivery was reported */
+    SSP_NEXT_BURST_DELIVERS = 13, /* [frames] the same; the burst before counts as delivered, with `frames` frames */
     SSP_REPEATED = 14,            /* a resent XFER_RDY was taken: it repeats the burst taken last */
     SSP_RESPONSE = 15,            /* [start, len, kind, status, sense_len, frames] the command has ended; the RESPONSE's IU is at start */
     SSP_READY = 16,               /* a set-up was taken: the record is at its start */
@@ -76,7 +76,7 @@ enum ssp_type {
 enum ssp_datapres {
     SSP_DATAPRES_NO_DATA = 0,
     SSP_DATAPRES_RESPONSE_DATA = 1, /* four bytes from byte start + 24 of the caller's bytes; they say what happened, the status does not */
-    SSP_DATAPRES_SENSE_DATA = 2     /* ssp_sense gives them */
+    SSP_DATAPRES_SENSE_DATA = 2     /* ssp_sense returns them */
 };
 
 /* ssp_write_target.state: how far its XFER_RDY is. */
@@ -87,7 +87,7 @@ enum ssp_state {
     SSP_STATE_READY = 3       /* it was acknowledged: DATA is taken */
 };
 
-/* The greatest and least values of the fields below, and the lengths of frames. */
+/* Greatest and least values of the fields below, and lengths of frames. */
 enum ssp_limit {
     SSP_COUNT_MOST = 16777216,
     SSP_SIZE_LEAST = 4,
@@ -124,7 +124,7 @@ typedef struct ssp_part {
 } ssp_part;
 
 /* What both ports of a command are set up with. It never changes. The other port has local and remote the other way round.
- * "The limits" are the ranges at these fields. ssp_read_transfer and ssp_write_transfer make a transfer with defaults. */
+ * "The limits" are the ranges at these fields. ssp_read_transfer and ssp_write_transfer return a transfer with defaults. */
 typedef struct ssp_transfer {
     uint32_t count;  /* byte count: 1 to 16,777,216 */
     uint32_t size;   /* data bytes per frame: 4 to 1,024, a multiple of four */
@@ -206,7 +206,7 @@ typedef struct ssp_write_initiator {
     ssp_sender sender; /* the burst in service; before the first, an empty one at 0 */
     uint32_t reached;  /* the furthest offset that was handed out in it */
     bool pending;      /* a burst is taken and not started */
-    ssp_burst taken;
+    ssp_burst taken;   /* that burst; zero where there is none */
 } ssp_write_initiator;
 
 /* The target in a write command.

@@ -23,8 +23,8 @@
 extern "C" {
 #endif
 
-/* MAJOR moves when a program's source has to change; MINOR when something is added and source from before still compiles; PATCH when nothing of
- * the interface moved. SSP_VERSION is one number that compares: 10203 is 1.2.3. */
+/* MAJOR moves when a program's source must change; MINOR when something is added and older source still compiles; PATCH when the interface did
+ * not change. SSP_VERSION is one number that compares: 10203 is 1.2.3. */
 #define SSP_VERSION_MAJOR 1
 #define SSP_VERSION_MINOR 0
 #define SSP_VERSION_PATCH 0

@@ -50,7 +50,7 @@ outside() {
   local flags
   compiles "$3"
   mkdir -p -- "$tmp/outside"
-  cp -- "$root/examples/$1.c" "$root/examples/show.h" "$tmp/outside/"
+  cp -- "$examples/$1.c" "$examples/show.h" "$tmp/outside/"
   if ! flags=$(PKG_CONFIG_PATH="$2/lib/pkgconfig" pkg-config --cflags --libs ssp 2>&1); then
     fail "pkg-config: $flags"
     return
@@ -58,9 +58,10 @@ outside() {
   # pkg-config escapes blanks for the shell
   eval "flags=($flags)"
   if tries "$1.c with the installed copy is built" env -C "$tmp/outside" "${compile[@]}" "${cflags[@]}" "$1.c" -x none "${flags[@]}" "${ldflags[@]}" -o "$1"; then
-    prints "$1.c with the installed copy" "$root/examples/$1.out" "$tmp/outside/$1"
+    prints "$1.c with the installed copy" "$examples/$1.out" "$tmp/outside/$1"
   fi
 }
+outside first "$tmp/prefix" c99
 outside read "$tmp/prefix" c99
 mv -- "$tmp/prefix" "$tmp/moved elsewhere" # the copy can be moved
 outside write "$tmp/moved elsewhere" c++11
@@ -73,6 +74,7 @@ prints 'the version in ssp.pc' "$tmp/version" env PKG_CONFIG_PATH="$tmp/moved el
 mkdir -p -- "$tmp/bin"
 ln -s -- "$tmp/moved elsewhere/bin/ladder" "$tmp/bin/ladder"
 pairs=$root/tests/ladder
+ladders=$root/examples/ladder
 # ladder WANTED_STATUS ARGUMENT...: standard output to $tmp/ladder_out, standard error to $tmp/ladder_err.
 ladder() {
   local wanted=$1 status=0
@@ -81,10 +83,10 @@ ladder() {
   ((status == wanted)) || { printf 'status %d\n' "$status" && return 1; }
 }
 installed_ladder() {
-  ladder 0 "$pairs/paper_example.run" && diff -- "$pairs/paper_example.ladder" "$tmp/ladder_out" && diff -- /dev/null "$tmp/ladder_err"
+  ladder 0 "$ladders/paper.run" && diff -- "$ladders/paper.ladder" "$tmp/ladder_out" && diff -- /dev/null "$tmp/ladder_err"
 }
-installed_draw() { ladder 0 --draw "$pairs/paper_example.run" && diff -- "$pairs/paper_example.drawing" "$tmp/ladder_out"; }
-installed_svg() { ladder 0 --svg "$root/examples/acks_slide.run" && diff -- "$root/docs/ladder.svg" "$tmp/ladder_out"; }
+installed_draw() { ladder 0 --draw "$ladders/paper.run" && diff -- "$ladders/paper.drawing" "$tmp/ladder_out"; }
+installed_svg() { ladder 0 --svg "$ladders/acks_slide.run" && diff -- "$root/docs/ladder.svg" "$tmp/ladder_out"; }
 installed_help() { ladder 0 --help && diff -- "$root/share/ladder.help" "$tmp/ladder_out"; }
 installed_refusal() {
   ladder 1 "$pairs/refused_size_6.run" && diff -- "$pairs/refused_size_6.ladder" "$tmp/ladder_out" && grep -q 'not a multiple of four' "$tmp/ladder_err"

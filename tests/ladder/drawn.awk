@@ -1,6 +1,6 @@
 # Holds a drawing against its ladder, apart from the script that draws: awk -v form=draw|svg -f drawn.awk LADDER DRAWING. Prints what is wrong, if anything.
 # An arrow for each row, in order, with its number, offset, bytes, CDP, fate and receiver; an answer for each frame that came, behind it, in order;
-# rounds numbered from 1; a retry for each CDP of one, and one more in a failure; the verdict last.
+# rounds numbered from 1; a retry for each CDP of one, and one more in a failure; the verdict last. The direction and the limit are those of its title.
 
 FILENAME == ARGV[1] {
   n = split($0, f, "\t")
@@ -15,10 +15,19 @@ FILENAME == ARGV[1] {
   cdp[rows] = f[4]
   fate[rows] = f[5]
   receiver[rows] = f[6]
+  after[rows] = f[2] + f[3]
   ones += f[4]
   if (f[5] != "lost") due[++dues] = rows
   next
 }
+
+titled == "" && match($0, /(read|write), [0-9]+ bytes?, .* retry limit [0-9]+/) {
+  titled = substr($0, RSTART, RLENGTH)
+  direction = substr(titled, 1, index(titled, ",") - 1)
+  sub(/.* /, "", titled) # the limit is left
+}
+
+form == "draw" && FNR == 2 && !(/== CDP one/ && /\.\. ACK or NAK/ && /x lost/ && /# damaged/) { wrong("no legend") }
 
 form == "draw" {
   if (FNR > 4 && /\|/ && (substr($0, 9, 1) != "|" || substr($0, 54, 1) != "|")) wrong("a lifeline is broken")
@@ -97,15 +106,18 @@ function round_of(number) {
 
 # What ends a round follows from the fates in it alone.
 function note(s, i, naks, missing, want) {
-  if (s ~ /^ *$/ || s ~ /XFER_RDY/) return
+  if (s ~ /^ *$/ || (rounds == 0 && s ~ /XFER_RDY for the whole|ACKed before the first/)) return
   noted++
   for (i = round_from + 1; i <= arrows; i++) {
     if (fate[i] == "bad") naks = 1
     if (fate[i] ~ /^(noack|nonak|lost)$/) missing = 1
   }
-  want = missing ? (naks ? "NAK, then timeout:" : "timeout:") : naks ? "NAK:" : "all ACKed"
+  want = missing ? (naks ? "NAK, then timeout:" : "timeout:") : naks ? "NAK:" : "all ACKed" acked() " *$"
   if (s !~ "^ *" want) wrong("round " rounds " ends with '" s "'")
   if (s !~ /all ACKed/) retried++
 }
+
+# A read moves its balance point; a write with retries on returns to 0 as long as there are frames to come.
+function acked() { return direction == "read" ? ": balance point " after[arrows] : titled + 0 > 0 && arrows < rows ? ": a retry still returns to 0" : "" }
 
 function wrong(s) { print s }

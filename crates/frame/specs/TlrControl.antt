@@ -1,4 +1,4 @@
--- Request K8, TLR CONTROL, bits 4 and 3 of byte 10: frames that differ at most in these bits. That each role takes them alike is stated in link
+-- Request K8, TLR CONTROL, bits 4 and 3 of byte 10: frames that differ at most in these bits. That each role takes them alike is stated in
 -- link specs/TakenAlike.
 use Prim.Native.Nat.{ℕ, _/_, _%_}
 use mathlib.Core.List.{List}

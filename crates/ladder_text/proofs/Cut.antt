@@ -1,5 +1,5 @@
 -- Bytes cut at a byte c: the first part, what is behind it, and where they stand.
-use Prim.Native.Nat.{ℕ, zero, suc, _+_, _-_, _≤_, _<_}
+use Prim.Native.Nat.{ℕ, zero, suc, _+_, _-_, min, _≤_, _<_}
 use mathlib.Core.List.{List, [], _∷_}
 use mathlib.Core.Bool.{Bool, true, false}
 use mathlib.Core.Path.{_≡_, refl, sym, ap, _∙_}
@@ -12,6 +12,7 @@ use lib.Dec.{eqb}
 use Rattle.bytes.specs.Bytes.{indexOf, indexAfter, slice}
 use Rattle.ladder_text.specs.Pick.{pick}
 use Rattle.ladder_text.specs.Text.{LF, TAB, glue, lines, fields, before, behind}
+use Rattle.ladder_text.specs.Lent.{fieldStart}
 
 -- the first part is what stands up to the first c
 pub take-before : (c : ℕ) (b : List ℕ) → take (length (before c b)) b ≡ before c b
@@ -44,18 +45,20 @@ index-before c (x ∷ xs) = go (eqb x c) (index-before c xs)
     go true e = refl
     go false e = ap suc e
 
--- the part that starts at `at`: none past the end, else up to where the search found c
+-- the part that starts at `at`: none past the end, else as many bytes as the search for c passed
+pub none-beyond : (c at : ℕ) (s : List ℕ) → length s ≤ at → [] ≡ before c (drop at s)
+none-beyond c at s p = ap (before c) (sym (drop-of-length-le s p))
+
 pub part-none : (c at : ℕ) (s : List ℕ) → length s ≤ at → take (length s - length s) (drop (length s) s) ≡ before c (drop at s)
-part-none c at s p =
-    let h : drop at s ≡ [] = drop-of-length-le s p in
-    rw (h, drop-length s, take-nil) refl
+part-none c at s p = rw (drop-length s, take-nil) (none-beyond c at s p)
+
+pub part-long : (c at n : ℕ) (s : List ℕ) → n ≡ indexOf c (slice at (length s) s) → take n (drop at s) ≡ before c (drop at s)
+unfolding slice
+part-long c at n s e =
+    rw (e ∙ ap (λ (l : List ℕ). indexOf c (drop at l)) (take-length s) ∙ index-before c (drop at s)) (take-before c (drop at s))
 
 pub part-found : (c at r : ℕ) (s : List ℕ) → r ≡ at + indexOf c (slice at (length s) s) → take (r - at) (drop at s) ≡ before c (drop at s)
-unfolding slice
-part-found c at r s e =
-    let f : indexOf c (drop at (take (length s) s)) ≡ length (before c (drop at s)) = ap (λ (l : List ℕ). indexOf c (drop at l)) (take-length s) ∙ index-before c (drop at s) in
-    let n : r - at ≡ length (before c (drop at s)) = omega arith in
-    rw n (take-before c (drop at s))
+part-found c at r s e = part-long c at (r - at) s (omega arith)
 
 -- the bytes from `at` on are no fewer than the part q there
 pub within : (c at : ℕ) (s q : List ℕ) → at ≤ length s → q ≡ before c (drop at s) → at + length q ≤ length s
@@ -98,45 +101,66 @@ first-field (x ∷ xs) = go (eqb x TAB) (first-field xs)
     go true e = refl
     go false e = opened x (fields xs) (before TAB xs) (drop 1 (fields xs)) e
 
-pub field-zero : (l : List ℕ) → getD (fields l) 0 [] ≡ before TAB l
+field-zero : (l : List ℕ) → getD (fields l) 0 [] ≡ before TAB l
 field-zero l = ap (λ (fs : List (List ℕ)). getD fs 0 []) (first-field l)
 
 glued : (x : ℕ) (f : List (List ℕ)) (m : ℕ) → getD (glue x f) (suc m) [] ≡ getD f (suc m) []
 glued x [] m = refl
 glued x (h ∷ s) m = refl
 
-no-field : (m : ℕ) → getD (fields []) m [] ≡ []
-unfolding fields
-no-field zero = refl
-no-field (suc m) = refl
+-- field i stands where `fieldStart` says
+start-first : (l : List ℕ) → fieldStart l 0 ≡ 0
+unfolding fieldStart
+start-first [] = refl
+start-first (x ∷ xs) = refl
 
-pub next-field : (l : List ℕ) (m : ℕ) → getD (fields l) (suc m) [] ≡ getD (fields (behind TAB l)) m []
-unfolding pick fields
-next-field [] m = sym (no-field m)
-next-field (x ∷ xs) m = go (eqb x TAB) (next-field xs m)
+pub field-there : (l : List ℕ) (i : ℕ) → before TAB (drop (fieldStart l i) l) ≡ getD (fields l) i []
+unfolding pick fields fieldStart
+field-there [] zero = refl
+field-there [] (suc i) = refl
+field-there (x ∷ xs) zero = sym (field-zero (x ∷ xs))
+field-there (x ∷ xs) (suc i) = go (eqb x TAB) (field-there xs)
   where
-    go : (t : Bool) → getD (fields xs) (suc m) [] ≡ getD (fields (behind TAB xs)) m [] → getD (pick t ([] ∷ fields xs) (glue x (fields xs))) (suc m) [] ≡ getD (fields (pick t xs (behind TAB xs))) m []
-    go true e = refl
-    go false e = glued x (fields xs) m ∙ e
+    go : (t : Bool) → ((k : ℕ) → before TAB (drop (fieldStart xs k) xs) ≡ getD (fields xs) k []) → before TAB (drop (fieldStart xs (pick t i (suc i))) xs) ≡ getD (pick t ([] ∷ fields xs) (glue x (fields xs))) (suc i) []
+    go true e = e i
+    go false e = e (suc i) ∙ sym (glued x (fields xs) i)
 
--- the search for field i: from `at`, where the part q stands, `left` fields are to pass
-module _ (l q : List ℕ) (at left : ℕ) {f : List ℕ} (is : q ≡ before TAB (drop at l)) (e : getD (fields (drop at l)) left [] ≡ f) (p : 0 < left) where
-  pub passed : getD (fields (drop (at + length q + 1) l)) (left - 1) [] ≡ f
-  passed =
-      let m = left - 1 in
-      let one : left ≡ suc m = omega arith in
-      rw (is, next-place TAB at l, ← next-field (drop at l) m, ← one) e
+pub start-within : (l : List ℕ) (i : ℕ) → fieldStart l i ≤ length l
+unfolding fieldStart
+start-within [] i = omega arith
+start-within (x ∷ xs) zero = omega arith
+start-within (x ∷ xs) (suc i) = omega (arith, start-within xs (pick (eqb x TAB) i (suc i)))
 
-  -- past the end there is none
-  pub none-left : length l < at + length q + 1 → before TAB (drop (length l) l) ≡ f
-  none-left out =
-      let h : drop (at + length q + 1) l ≡ [] = drop-of-length-le l {i = at + length q + 1} (omega arith) in
-      ap (before TAB) (drop-length l) ∙ sym (no-field (left - 1)) ∙ ap (λ (b : List ℕ). getD (fields b) (left - 1) []) (sym h) ∙ passed
+-- behind one tab more, or at the end
+start-next : (b : List ℕ) (m : ℕ) → fieldStart b (suc m) ≡ min (length b) (length (before TAB b) + 1 + fieldStart (behind TAB b) m)
+unfolding pick fieldStart
+start-next [] m = omega arith
+start-next (x ∷ xs) m = go (eqb x TAB) (start-next xs m)
+  where
+    go : (t : Bool) → fieldStart xs (suc m) ≡ min (length xs) (length (before TAB xs) + 1 + fieldStart (behind TAB xs) m) → suc (fieldStart xs (pick t m (suc m))) ≡ min (suc (length xs)) (length (pick t [] (x ∷ before TAB xs)) + 1 + fieldStart (pick t xs (behind TAB xs)) m)
+    go true e = omega (arith, start-within xs m)
+    go false e = omega arith
 
-pub arrived : (l : List ℕ) (at left : ℕ) {f : List ℕ} → left ≤ 0 → getD (fields (drop at l)) left [] ≡ f → before TAB (drop at l) ≡ f
+-- the search for field i: from `at`, where the part q stands, `left` tabs are to pass
+module _ (l q : List ℕ) (at left : ℕ) {k : ℕ} (is : q ≡ before TAB (drop at l)) (e : at + fieldStart (drop at l) left ≡ k) (p : 0 < left) where
+  abbrev past : ℕ
+  past = at + length q + 1
+
+  jump : at + min (length (drop at l)) (length q + 1 + fieldStart (drop past l) (left - 1)) ≡ k
+  jump =
+      let one : suc (left - 1) ≡ left = omega arith in
+      rw (is, next-place TAB at l, ← start-next (drop at l) (left - 1), one) e
+
+  pub passed : past ≤ length l → past + fieldStart (drop past l) (left - 1) ≡ k
+  passed room = omega (arith, jump, length-drop at l, start-within (drop past l) (left - 1), length-drop past l)
+
+  pub none-left : at ≤ length l → length l < past → length l ≡ k
+  none-left inside out = omega (arith, jump, length-drop at l)
+
+pub arrived : (l : List ℕ) (at left : ℕ) {k : ℕ} → left ≤ 0 → at + fieldStart (drop at l) left ≡ k → at ≡ k
 arrived l at left p e =
     let none : left ≡ 0 = omega arith in
-    sym (field-zero (drop at l)) ∙ (rw none at e)
+    omega (arith, start-first (drop at l), rw none at e)
 
 -- how many fields
 pub count-tab : (x : ℕ) (xs : List ℕ) → eqb x TAB ≡ true → length (fields (x ∷ xs)) ≡ suc (length (fields xs))

@@ -1,6 +1,7 @@
 use mathlib.Core.Path.{refl}
 use Rattle.ladder_text.specs.Pick.{pick}
 use Rattle.ladder_text.specs.Text.{lines, fields}
+use Rattle.ladder_text.specs.Lent.{fieldStart}
 use Rattle.ladder_text.specs.Decimal.{digits, decimal, sumFrom, numberOf}
 use Rattle.ladder_text.specs.Words.{directionOf, fateOf}
 use Rattle.ladder_text.specs.Rows.{quadAt, runOf}
@@ -8,7 +9,7 @@ use Rattle.ladder_text.specs.RunFile.{fileOf}
 use Rattle.ladder_text.specs.WorkedTexts.{WorkedTexts}
 
 pub answers : WorkedTexts
-unfolding pick lines fields digits decimal sumFrom numberOf directionOf fateOf quadAt runOf fileOf
+unfolding pick lines fields fieldStart digits decimal sumFrom numberOf directionOf fateOf quadAt runOf fileOf
 answers =
     record {
       nought = refl;
@@ -27,6 +28,8 @@ answers =
       feed = refl;
       noLine = refl;
       emptyFields = refl;
+      twoTabs = refl;
+      noField = refl;
       taken = refl;
       emptyInput = refl;
       tooMany = refl;

@@ -1,5 +1,6 @@
 pub mod Pick
 pub mod Text
+pub mod Lent
 pub mod Decimal
 pub mod Words
 pub mod Rows

@@ -3,6 +3,7 @@ use Prim.Native.Nat.{ℕ}
 use mathlib.Core.List.{List, [], _∷_}
 use mathlib.Core.Path.{_≡_}
 use Rattle.ladder_text.specs.Text.{bytes, lines, fields}
+use Rattle.ladder_text.specs.Lent.{fieldStart}
 use Rattle.ladder_text.specs.Decimal.{numberOf}
 use Rattle.ladder_text.specs.Words.{MOST}
 use Rattle.ladder_text.specs.Rows.{ladderText, refusedText}
@@ -55,6 +56,8 @@ pub record WorkedTexts : Type 0 where
   pub feed : lines (bytes "\n") ≡ bytes "" ∷ []
   pub noLine : lines (bytes "") ≡ []
   pub emptyFields : fields (bytes "\tok\t") ≡ bytes "" ∷ bytes "ok" ∷ bytes "" ∷ []
+  pub twoTabs : fieldStart (bytes "a\t\tok") 2 ≡ 3
+  pub noField : fieldStart (bytes "a\t\tok") 3 ≡ 5
   -- run files
   pub taken : fileOf (bytes "read\t10\t4\t3\t1\nlost") ≡ file.Run example 14
   pub emptyInput : fileOf (bytes "") ≡ file.Refused 1

@@ -1,13 +1,12 @@
 // Lines and fields.
 ghost use mathlib.Core.Path.{_≡_};
-ghost use mathlib.Core.List.{[]};
-ghost use Prim.Native.Nat.{_≤_};
-ghost use lib.ListN.{length, getD, drop};
-ghost use Rattle.ladder_text.specs.Text.{LF, TAB, before, fields};
+ghost use lib.ListN.{length};
+ghost use Rattle.ladder_text.specs.Text.{fields};
+ghost use Rattle.ladder_text.specs.Lent.{Shows, partIn, lineIn, fieldStart, fieldIn};
 
-// The bytes of s from `at` to the first c, or to the end.
+// The bytes of s from `at`, or from the end where that is beyond, to the first c or to the end.
 fn part(s: &[u8], at: usize, c: u8) -> &[u8]
-    ensures { λ r. ⌜ now r ≡ before c (drop at (now (s .entry))) ⌝ }
+    ensures { λ r. ⌜ Shows r (s .entry) (partIn c (now (s .entry)) at) ⌝ }
 {
     let n = s.len();
     if n <= at {
@@ -19,14 +18,14 @@ fn part(s: &[u8], at: usize, c: u8) -> &[u8]
 
 // The line that starts at `at`, without its line feed; the next starts one byte behind it.
 pub fn line(s: &[u8], at: usize) -> &[u8]
-    ensures { λ r. ⌜ now r ≡ before LF (drop at (now (s .entry))) ⌝ }
+    ensures { λ r. ⌜ Shows r (s .entry) (lineIn (now (s .entry)) at) ⌝ }
 {
     part(s, at, b'\n')
 }
 
 // Where field i of a line starts, counted from 0; the end where there is none.
 fn field_start(l: &[u8], i: usize) -> usize
-    ensures { λ r. ⌜ (r ≤ length (now (l .entry))) × (before TAB (drop r (now (l .entry))) ≡ getD (fields (now (l .entry))) i []) ⌝ }
+    ensures { λ r. ⌜ r ≡ fieldStart (now (l .entry)) i ⌝ }
 {
     let mut at = 0;
     let mut left = i;
@@ -42,7 +41,7 @@ fn field_start(l: &[u8], i: usize) -> usize
 
 // Field i of a line, counted from 0, without its tab; empty where there is none.
 pub fn field(l: &[u8], i: usize) -> &[u8]
-    ensures { λ r. ⌜ now r ≡ getD (fields (now (l .entry))) i [] ⌝ }
+    ensures { λ r. ⌜ Shows r (l .entry) (fieldIn (now (l .entry)) i) ⌝ }
 {
     let at = field_start(l, i);
     part(l, at, b'\t')

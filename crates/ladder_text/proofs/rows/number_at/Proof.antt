@@ -6,7 +6,7 @@ use Rattle.ladder_text.proofs.rows.number_at.Statement.{statement}
 use Rattle.ladder_text.proofs.rows.number_at.Tie as tie
 
 returns : tie.Need-returns
-returns c = c .read-number .ensures ∙ ap (numberOf MOST) (c .before .field .ensures)
+returns c = c .read-number .ensures ∙ ap (numberOf MOST) (c .before .field .ensures .0)
 
 pub number-at-spec : {M : Type 1} → statement M
 number-at-spec =

@@ -15,7 +15,7 @@ unfolding refusedOf
 returns-2 c =
     let f = c .before .before .before in
     this-number _ _ (f .before .before .field-count .ensures) (f .before .if1 .left)
-    (rw (← f .field .ensures) (not-it _ (c .before .is .ensures) (not-true _ (c .if2 .taken)) refl))
+    (rw (← f .field .ensures .0) (not-it _ (c .before .is .ensures) (not-true _ (c .if2 .taken)) refl))
 
 returns-3 : tie.Need-returns-3
 unfolding refusedOf
@@ -23,7 +23,7 @@ returns-3 c =
     let t = c .before in
     let f = t .before .before .before in
     this-number _ _ (f .before .before .field-count .ensures) (f .before .if1 .left)
-    (rw (← f .field .ensures) (is-it _ (t .before .is .ensures) (not-false _ (t .if2 .left)) (c .number-at .ensures)))
+    (rw (← f .field .ensures .0) (is-it _ (t .before .is .ensures) (not-false _ (t .if2 .left)) (c .number-at .ensures)))
 
 pub read-refused-spec : {M : Type 1} → statement M
 read-refused-spec =

@@ -16,7 +16,7 @@ returns-2 c =
     let q = f .before .before in
     let t = q .before in
     this-number _ _ (t .before .field-count .ensures) (t .if1 .left)
-    (rw (← q .quad-at .ensures, ← f .before .field .ensures, ← f .read-fate .ensures, ← x .before .field2 .ensures, ← x .read-receipt .ensures) (c .row-from .ensures))
+    (rw (← q .quad-at .ensures, ← f .before .field .ensures .0, ← f .read-fate .ensures, ← x .before .field2 .ensures .0, ← x .read-receipt .ensures) (c .row-from .ensures))
 
 pub read-row-spec : {M : Type 1} → statement M
 read-row-spec =

@@ -14,7 +14,7 @@ returns-2 c =
     let d = c .before .before in
     let t = d .before .before in
     this-number _ _ (t .before .field-count .ensures) (t .if1 .left)
-    (rw (← d .before .field .ensures, ← d .read-direction .ensures, ← c .before .quad-at .ensures) (c .run-from .ensures))
+    (rw (← d .before .field .ensures .0, ← d .read-direction .ensures, ← c .before .quad-at .ensures) (c .run-from .ensures))
 
 pub read-run-spec : {M : Type 1} → statement M
 read-run-spec =

@@ -14,7 +14,7 @@ returns-2 c =
     let o = c .before .before in
     let t = o .before .before in
     this-number _ _ (t .before .field-count .ensures) (t .if1 .left)
-    (rw (← o .before .field .ensures, ← o .read-outcome .ensures, ← c .before .quad-at .ensures) (c .verdict-from .ensures))
+    (rw (← o .before .field .ensures .0, ← o .read-outcome .ensures, ← c .before .quad-at .ensures) (c .verdict-from .ensures))
 
 pub read-verdict-spec : {M : Type 1} → statement M
 read-verdict-spec =

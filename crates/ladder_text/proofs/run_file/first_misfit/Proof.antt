@@ -23,7 +23,7 @@ returns : tie.Need-returns Inv-loop μ-loop
 returns c =
     let l = c .before .before .before in
     let t = l .before in
-    misfit-here (t .before .before .before .args .s .now) (t .before .loop .at) (t .before .loop .n) (l .line .ensures) (c .before .before .read-fate .ensures) (c .before .is-fate .ensures) (t .loop-test .taken) (t .before .loop .inv .1) (not-true _ (c .if1 .taken))
+    misfit-here (t .before .before .before .args .s .now) (t .before .loop .at) (t .before .loop .n) (l .line .ensures .0) (c .before .before .read-fate .ensures) (c .before .is-fate .ensures) (t .loop-test .taken) (t .before .loop .inv .1) (not-true _ (c .if1 .taken))
 
 loop-less : tie.Need-loop-less Inv-loop μ-loop
 loop-less c = search needs
@@ -32,7 +32,7 @@ loop-again : tie.Need-loop-again Inv-loop μ-loop
 loop-again c =
     let l = c .before .before .before in
     let t = l .before in
-    (search needs, misfit-next (t .before .before .before .args .s .now) (t .before .loop .at) (t .before .loop .n) (l .line .ensures) (c .before .before .read-fate .ensures) (c .before .is-fate .ensures) (t .loop-test .taken) (t .before .loop .inv .1) (not-false _ (c .if1 .left)))
+    (search needs, misfit-next (t .before .before .before .args .s .now) (t .before .loop .at) (t .before .loop .n) (l .line .ensures .0) (c .before .before .read-fate .ensures) (c .before .is-fate .ensures) (t .loop-test .taken) (t .before .loop .inv .1) (not-false _ (c .if1 .left)))
 
 returns-2 : tie.Need-returns-2 Inv-loop μ-loop
 returns-2 c =

@@ -14,7 +14,7 @@ returns-2 : tie.Need-returns-2
 unfolding nextFate
 returns-2 c =
     let l = c .before .before in
-    in-true _ _ _ _ (lt-ltb _ _ (l .before .if1 .left)) (rw (← l .line .ensures, ← c .before .read-fate .ensures, ← c .fate-or .ensures) refl)
+    in-true _ _ _ _ (lt-ltb _ _ (l .before .if1 .left)) (rw (← l .line .ensures .0, ← c .before .read-fate .ensures, ← c .fate-or .ensures) refl)
 
 pub next-fate-spec : {M : Type 1} → statement M
 next-fate-spec =

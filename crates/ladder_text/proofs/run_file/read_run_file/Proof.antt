@@ -14,14 +14,14 @@ returns-3 : tie.Need-returns-3
 returns-3 c =
     let r = c .before .before in
     let t = r .before .before in
-    sym (of-lines _ _ (t .before .if1 .left) (t .if2 .left) (r .before .line .ensures) (sym (c .enum-told .given .1) ∙ r .read-run .ensures))
+    sym (of-lines _ _ (t .before .if1 .left) (t .if2 .left) (r .before .line .ensures .0) (sym (c .enum-told .given .1) ∙ r .read-run .ensures))
 
 returns-4 : tie.Need-returns-4
 returns-4 c =
     let u = c .before .before .before in
     let r = u .before .before in
     let t = r .before .before in
-    rw (of-lines _ _ (t .before .if1 .left) (t .if2 .left) (r .before .line .ensures) (sym (u .run .given .1) ∙ r .read-run .ensures), ← c .before .first-misfit .ensures) (c .further-lines .ensures)
+    rw (of-lines _ _ (t .before .if1 .left) (t .if2 .left) (r .before .line .ensures .0) (sym (u .run .given .1) ∙ r .read-run .ensures), ← c .before .first-misfit .ensures) (c .further-lines .ensures)
 
 pub read-run-file-spec : {M : Type 1} → statement M
 read-run-file-spec =
