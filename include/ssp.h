@@ -50,7 +50,7 @@ extern "C" {
 ssp_answer ssp_read_target_set_up(ssp_read_target *record, ssp_transfer transfer);
 
 /* Writes the next DATA frame to `out`. Its data are transfer.size bytes of the caller-owned buffer `data` from the next offset on, or what
- * remains.
+ * remains. Its target port transfer tag is transfer.value.
  * Answers SSP_BAD_REQUEST (not in range, or data_len is not transfer.count), SSP_TRANSFER_ENDED; SSP_WAIT if a NAK is pending, the window is
  * full or the next offset is the end; SSP_FRAME_SPACE_SHORT; SSP_FRAME. */
 ssp_answer ssp_read_target_next_frame(ssp_read_target *record, const uint8_t *data, size_t data_len, uint8_t *out, size_t out_len);
@@ -88,7 +88,7 @@ ssp_answer ssp_read_target_frame_received(ssp_read_target *record, const uint8_t
 /* Sets up the receiving end of a read. Answers SSP_BAD_REQUEST (a limit is broken, or transfer.write is true); SSP_READY. */
 ssp_answer ssp_read_initiator_set_up(ssp_read_initiator *record, ssp_transfer transfer);
 
-/* A frame arrived, any bytes. DATA goes to its place in the caller-owned buffer `data`.
+/* A frame arrived, any bytes. DATA goes to its place in the caller-owned buffer `data`. The target port transfer tag is ignored.
  * Answers SSP_BAD_REQUEST (not in range, or data_len is not transfer.count), SSP_TRANSFER_ENDED, SSP_MALFORMED_FRAME, SSP_UNEXPECTED_FRAME_TYPE,
  * SSP_WRONG_ADDRESS, SSP_UNKNOWN_TAG; then
  *   DATA: SSP_DISCARDED (all is filled), SSP_DATA_OFFSET_ERROR, SSP_TOO_MUCH_DATA, SSP_INCORRECT_DATA_LENGTH; SSP_DISCARDED (retries on, CDP
@@ -133,7 +133,7 @@ ssp_answer ssp_write_initiator_connection_lost(ssp_write_initiator *record);
 /* The I_T nexus was lost. Answers SSP_BAD_REQUEST (not in range), SSP_TRANSFER_ENDED, SSP_NEXUS_LOSS. */
 ssp_answer ssp_write_initiator_nexus_lost(ssp_write_initiator *record);
 
-/* A frame arrived, any bytes: XFER_RDY or RESPONSE.
+/* A frame arrived, any bytes: XFER_RDY or RESPONSE. The target port transfer tag of a RESPONSE is ignored.
  * Answers SSP_BAD_REQUEST (not in range), SSP_TRANSFER_ENDED, SSP_MALFORMED_FRAME, SSP_UNEXPECTED_FRAME_TYPE, SSP_WRONG_ADDRESS, SSP_UNKNOWN_TAG;
  * then
  *   XFER_RDY: SSP_XFER_RDY_IU_TOO_SHORT, SSP_XFER_RDY_IU_TOO_LONG, SSP_XFER_RDY_NOT_EXPECTED, SSP_XFER_RDY_REQUESTED_OFFSET_ERROR,
@@ -185,14 +185,14 @@ ssp_answer ssp_write_target_nexus_lost(ssp_write_target *record);
 ssp_answer ssp_write_target_frame_received(ssp_write_target *record, const uint8_t *bytes, size_t bytes_len, uint8_t *data, size_t data_len);
 
 /* ---- RESPONSE at the target. -----------------------------------------------------------------------------------------------------------
- * It has a record of its own. Ask for it only after all data were delivered or received, or the transfer failed; no call tests this. Keep the IU
- * until its ACK: a resend needs it again. */
+ * It has a record of its own. Set it up with the command's transfer, so that it carries the same value under SAS-2. Ask for it only after all
+ * data were delivered or received, or the transfer failed. No call tests either. Keep the IU until its ACK: a resend needs it again. */
 
 /* Sets up a RESPONSE with an IU of len bytes.
  * Answers SSP_BAD_REQUEST (a limit is broken, or len is not 24 to 1,024; the direction may be either); SSP_READY. */
 ssp_answer ssp_response_set_up(ssp_response *record, ssp_transfer transfer, size_t len);
 
-/* Writes the RESPONSE with the caller-owned IU to `out`.
+/* Writes the RESPONSE with the caller-owned IU to `out`. Its target port transfer tag is transfer.value, also when it is resent.
  * Answers SSP_BAD_REQUEST (not in range, or iu_len is not record->len), SSP_TRANSFER_ENDED; SSP_WAIT (its confirmation is due);
  * SSP_FRAME_SPACE_SHORT; SSP_FRAME. */
 ssp_answer ssp_response_next_frame(ssp_response *record, const uint8_t *iu, size_t iu_len, uint8_t *out, size_t out_len);

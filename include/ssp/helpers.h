@@ -9,7 +9,7 @@ extern "C" {
 #endif
 
 /* Defaults that ssp_read_transfer and ssp_write_transfer set. Change a field afterwards: `transfer.window = 3;`. Both ports need the same
- * values. */
+ * size, window and retry limit. The edition is SAS-1.1; ssp_sas2 changes it. */
 enum ssp_default {
     SSP_DEFAULT_SIZE = 1024,    /* the most that a frame holds, so the fewest frames */
     SSP_DEFAULT_WINDOW = 8,     /* frames go out while confirmations of earlier ones are due */
@@ -29,6 +29,8 @@ static inline ssp_transfer ssp_read_transfer(uint32_t count, uint32_t local, uin
     transfer.remote = remote;
     transfer.tag = tag;
     transfer.write = false;
+    transfer.sas2 = false;
+    transfer.value = 0;
     return transfer;
 }
 
@@ -37,6 +39,13 @@ static inline ssp_transfer ssp_write_transfer(uint32_t count, uint32_t local, ui
     ssp_transfer transfer = ssp_read_transfer(count, local, remote, tag);
     transfer.burst = burst;
     transfer.write = true;
+    return transfer;
+}
+
+/* The transfer under SAS-2 with that value: `ssp_sas2(ssp_read_transfer(count, local, remote, tag), 0x0100)`. */
+static inline ssp_transfer ssp_sas2(ssp_transfer transfer, uint16_t value) {
+    transfer.sas2 = true;
+    transfer.value = value;
     return transfer;
 }
 

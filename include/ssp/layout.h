@@ -32,7 +32,7 @@ SSP_SIZE(ssp_part, 16);
 SSP_AT(ssp_part, at, 0);
 SSP_AT(ssp_part, len, 8);
 
-SSP_SIZE(ssp_transfer, 32);
+SSP_SIZE(ssp_transfer, 36);
 SSP_AT(ssp_transfer, count, 0);
 SSP_AT(ssp_transfer, size, 4);
 SSP_AT(ssp_transfer, window, 8);
@@ -42,6 +42,8 @@ SSP_AT(ssp_transfer, local, 20);
 SSP_AT(ssp_transfer, remote, 24);
 SSP_AT(ssp_transfer, tag, 28);
 SSP_AT(ssp_transfer, write, 30);
+SSP_AT(ssp_transfer, sas2, 31);
+SSP_AT(ssp_transfer, value, 32);
 
 SSP_SIZE(ssp_burst, 16);
 SSP_AT(ssp_burst, base, 0);
@@ -52,27 +54,27 @@ SSP_AT(ssp_burst, tptt, 12);
 #define SSP_SENDER(record)          \
     SSP_SIZE(record, 80);           \
     SSP_AT(record, transfer, 0);    \
-    SSP_AT(record, burst, 32);      \
-    SSP_AT(record, next, 48);       \
-    SSP_AT(record, balance, 52);    \
-    SSP_AT(record, unanswered, 56); \
-    SSP_AT(record, nak, 60);        \
-    SSP_AT(record, cdp, 61);        \
-    SSP_AT(record, ended, 62);      \
-    SSP_AT(record, frames, 64);     \
-    SSP_AT(record, retries, 72)
+    SSP_AT(record, burst, 36);      \
+    SSP_AT(record, next, 52);       \
+    SSP_AT(record, balance, 56);    \
+    SSP_AT(record, unanswered, 60); \
+    SSP_AT(record, nak, 64);        \
+    SSP_AT(record, cdp, 65);        \
+    SSP_AT(record, ended, 66);      \
+    SSP_AT(record, retries, 68);    \
+    SSP_AT(record, frames, 72)
 SSP_SENDER(ssp_read_target);
 SSP_SENDER(ssp_sender);
 
 #define SSP_RECEIVER(record)      \
-    SSP_SIZE(record, 52);         \
+    SSP_SIZE(record, 56);         \
     SSP_AT(record, transfer, 0);  \
-    SSP_AT(record, base, 32);     \
-    SSP_AT(record, end, 36);      \
-    SSP_AT(record, expected, 40); \
-    SSP_AT(record, filled, 44);   \
-    SSP_AT(record, waiting, 48);  \
-    SSP_AT(record, ended, 49)
+    SSP_AT(record, base, 36);     \
+    SSP_AT(record, end, 40);      \
+    SSP_AT(record, expected, 44); \
+    SSP_AT(record, filled, 48);   \
+    SSP_AT(record, waiting, 52);  \
+    SSP_AT(record, ended, 53)
 SSP_RECEIVER(ssp_read_initiator);
 SSP_RECEIVER(ssp_receiver);
 
@@ -82,21 +84,21 @@ SSP_AT(ssp_write_initiator, reached, 80);
 SSP_AT(ssp_write_initiator, pending, 84);
 SSP_AT(ssp_write_initiator, taken, 88);
 
-SSP_SIZE(ssp_write_target, 64);
+SSP_SIZE(ssp_write_target, 68);
 SSP_AT(ssp_write_target, receiver, 0);
-SSP_AT(ssp_write_target, retries, 52);
-SSP_AT(ssp_write_target, tptt, 56);
-SSP_AT(ssp_write_target, under, 58);
-SSP_AT(ssp_write_target, since, 60);
-SSP_AT(ssp_write_target, state, 62);
-SSP_AT(ssp_write_target, stored, 63);
+SSP_AT(ssp_write_target, retries, 56);
+SSP_AT(ssp_write_target, tptt, 60);
+SSP_AT(ssp_write_target, under, 62);
+SSP_AT(ssp_write_target, since, 64);
+SSP_AT(ssp_write_target, state, 66);
+SSP_AT(ssp_write_target, stored, 67);
 
-SSP_SIZE(ssp_response, 44);
+SSP_SIZE(ssp_response, 48);
 SSP_AT(ssp_response, transfer, 0);
-SSP_AT(ssp_response, len, 32);
-SSP_AT(ssp_response, retries, 36);
-SSP_AT(ssp_response, unanswered, 40);
-SSP_AT(ssp_response, ended, 41);
+SSP_AT(ssp_response, len, 36);
+SSP_AT(ssp_response, retries, 40);
+SSP_AT(ssp_response, unanswered, 44);
+SSP_AT(ssp_response, ended, 45);
 
 SSP_SIZE(ssp_header, 24);
 SSP_AT(ssp_header, type, 0);

@@ -123,8 +123,9 @@ typedef struct ssp_part {
     size_t len;
 } ssp_part;
 
-/* What both ports of a command are set up with. It never changes. The other port has local and remote the other way round.
- * "The limits" are the ranges at these fields. ssp_read_transfer and ssp_write_transfer return a transfer with defaults. */
+/* What both ports of a command are set up with. It never changes. The other port has local and remote the other way round. sas2 and value may
+ * differ at the two ports: a receiving port ignores the TPTT (target port transfer tag) of read DATA and RESPONSE. "The limits" are the ranges at
+ * these fields. ssp_read_transfer and ssp_write_transfer return a transfer with defaults. */
 typedef struct ssp_transfer {
     uint32_t count;  /* byte count: 1 to 16,777,216 */
     uint32_t size;   /* data bytes per frame: 4 to 1,024, a multiple of four */
@@ -134,7 +135,9 @@ typedef struct ssp_transfer {
     uint32_t local;  /* hashed address of this port: 24 bits */
     uint32_t remote; /* hashed address of the other port: 24 bits */
     uint16_t tag;
-    bool write; /* the direction: true for a write command, false for a read */
+    bool write;     /* the direction: true for a write command, false for a read */
+    bool sas2;      /* the edition: true for SAS-2, false for SAS-1.1 */
+    uint16_t value; /* the TPTT of every read DATA frame and RESPONSE of the command; under SAS-1.1 it must be 0 */
 } ssp_transfer;
 
 /* What one XFER_RDY asks for, or a whole read. */
@@ -142,7 +145,7 @@ typedef struct ssp_burst {
     uint32_t base;
     uint32_t end;
     uint32_t limit; /* the retry limit in force */
-    uint16_t tptt;  /* target port transfer tag of the XFER_RDY; read DATA carries zero */
+    uint16_t tptt;  /* target port transfer tag of the XFER_RDY; read DATA carries transfer.value instead */
 } ssp_burst;
 
 /* The target in a read command: a sending port.
@@ -157,8 +160,8 @@ typedef struct ssp_read_target {
     bool nak;            /* a NAK is pending */
     bool cdp;            /* the next frame has CHANGING DATA POINTER one */
     bool ended;
-    uint64_t frames; /* frames handed out since set-up */
     uint32_t retries;
+    uint64_t frames; /* frames handed out since set-up */
 } ssp_read_target;
 
 /* The initiator in a read command: a receiving port.
@@ -184,8 +187,8 @@ typedef struct ssp_sender {
     bool nak;
     bool cdp;
     bool ended;
-    uint64_t frames; /* frames handed out since the write burst began */
     uint32_t retries;
+    uint64_t frames; /* frames handed out since the write burst began */
 } ssp_sender;
 
 /* The receiving port inside ssp_write_target: the fields of ssp_read_initiator. */

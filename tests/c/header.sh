@@ -43,10 +43,12 @@ for std in c99 c++11; do
   done
 done
 
-# ---- a header of another interface does not link ----
-mkdir -- "$tmp/other"
-cp -R -- "$root/include/." "$tmp/other/"
-sed -i 's/ssp_interface_1/ssp_interface_2/' "$tmp/other/ssp/version.h"
+# ---- a header of another interface does not link: the one before, which programs were compiled against, and the next ----
+for other in 1 3; do
+  mkdir -- "$tmp/interface_$other"
+  cp -R -- "$root/include/." "$tmp/interface_$other/"
+  sed -i "s/ssp_interface_2/ssp_interface_$other/" "$tmp/interface_$other/ssp/version.h"
+done
 printf '#include "ssp.h"\nint main(void) { ssp_response r = SSP_ZERO; return ssp_response_nexus_lost(&r).number == SSP_BAD_REQUEST ? 0 : 1; }\n' >"$tmp/calls.c"
 printf '#include "ssp.h"\nint main(void) { return 0; }\n' >"$tmp/no_calls.c"
 for std in c99 c++11; do
@@ -58,7 +60,9 @@ for std in c99 c++11; do
       if tries "$source as $std $options is linked" "${compile[@]}" "${option[@]}" "${cflags[@]}" -I"$root/include" "${link[@]}"; then
         tries "$source as $std $options" timeout 10 "$tmp/linked" || true
       fi
-      stops "$source as $std $options, header of interface 2" 'ssp_interface_2' "${compile[@]}" "${option[@]}" "${cflags[@]}" -I"$tmp/other" "${link[@]}"
+      for other in 1 3; do
+        stops "$source as $std $options, header of interface $other" "ssp_interface_$other" "${compile[@]}" "${option[@]}" "${cflags[@]}" -I"$tmp/interface_$other" "${link[@]}"
+      done
     done
   done
 done

@@ -25,7 +25,7 @@ static void version(void) {
     TRY(SSP_VERSION == SSP_VERSION_MAJOR * 10000 + SSP_VERSION_MINOR * 100 + SSP_VERSION_PATCH);
     TRY(SSP_VERSION_MINOR < 100 && SSP_VERSION_PATCH < 100);
     TRY(ssp_version() == SSP_VERSION);
-    TRY(ssp_interface_1() == 1);
+    TRY(SSP_VERSION == 10100 && ssp_interface_2() == 2);
 }
 
 /* ---- names ---- */
@@ -108,7 +108,7 @@ static int taken(ssp_transfer t) {
 static void transfers(void) {
     ssp_transfer t = ssp_read_transfer(46, 0x123456, 0xABCDEF, 0x0012);
     TRY(t.count == 46 && t.local == 0x123456 && t.remote == 0xABCDEF && t.tag == 0x0012 && !t.write);
-    TRY(t.size == 1024 && t.window == 8 && t.limit == 3 && t.burst == 46);
+    TRY(t.size == 1024 && t.window == 8 && t.limit == 3 && t.burst == 46 && !t.sas2 && t.value == 0);
     TRY(SSP_DEFAULT_SIZE == 1024 && SSP_DEFAULT_WINDOW == 8 && SSP_DEFAULT_RETRY_LIMIT == 3);
     TRY(taken(t) == 102);
     t.burst = 0; /* what a read has to be kept from */
@@ -120,11 +120,37 @@ static void transfers(void) {
 
     t = ssp_write_transfer(24, 0x123456, 0xABCDEF, 0x0034, 12);
     TRY(t.count == 24 && t.local == 0x123456 && t.remote == 0xABCDEF && t.tag == 0x0034 && t.write);
-    TRY(t.size == 1024 && t.window == 8 && t.limit == 3 && t.burst == 12);
+    TRY(t.size == 1024 && t.window == 8 && t.limit == 3 && t.burst == 12 && !t.sas2 && t.value == 0);
     TRY(taken(t) == 120);
     TRY(taken(ssp_write_transfer(1, 0, 0, 0, 1)) == 120);
     TRY(taken(ssp_write_transfer(SSP_COUNT_MOST, SSP_ADDRESS_MOST, SSP_ADDRESS_MOST, 0xFFFF, SSP_COUNT_MOST)) == 120);
     TRY(taken(ssp_write_transfer(24, 1, 2, 3, 0)) == 0 && taken(ssp_write_transfer(24, 1, 2, 3, 25)) == 0);
+}
+
+/* ---- the edition ---- */
+
+static void editions(void) {
+    static const uint16_t values[] = {0, 1, 0x00FF, 0xFF00, 0xFFFF};
+    ssp_transfer read = ssp_read_transfer(46, 0x123456, 0xABCDEF, 0x0012), write = ssp_write_transfer(24, 0xABCDEF, 0x123456, 0x0034, 12);
+    ssp_transfer t;
+    unsigned i;
+    for (i = 0; i < sizeof values / sizeof values[0]; i++) {
+        t = ssp_sas2(read, values[i]);
+        TRY(t.sas2 && t.value == values[i] && taken(t) == 102);
+        TRY(t.count == 46 && t.local == 0x123456 && t.remote == 0xABCDEF && t.tag == 0x0012 && !t.write);
+        TRY(t.size == 1024 && t.window == 8 && t.limit == 3 && t.burst == 46);
+        t.sas2 = false;
+        TRY(taken(t) == (values[i] == 0 ? 102 : 0));
+        t = ssp_sas2(write, values[i]);
+        TRY(t.sas2 && t.value == values[i] && taken(t) == 120);
+        TRY(t.count == 24 && t.local == 0xABCDEF && t.remote == 0x123456 && t.tag == 0x0034 && t.write);
+        TRY(t.size == 1024 && t.window == 8 && t.limit == 3 && t.burst == 12);
+        t.sas2 = false;
+        TRY(taken(t) == (values[i] == 0 ? 120 : 0));
+        t = ssp_sas2(ssp_sas2(read, 7), values[i]);
+        TRY(t.sas2 && t.value == values[i]);
+    }
+    TRY(!read.sas2 && read.value == 0 && !write.sas2 && write.value == 0);
 }
 
 /* ---- sense data ---- */
@@ -164,6 +190,7 @@ int main(void) {
     version();
     names();
     transfers();
+    editions();
     sense();
     if (wrong > 0) {
         printf("%u of %u checks failed\n", wrong, checks);

@@ -1,12 +1,14 @@
 /* Each field that C sets is the one that the library sees: every field of every record is set by itself to a telling value, and an answer,
  * a frame's bytes or the record that is left shows that the library reads it there. All functions are called; the writer's two steps are tried
  * apart. RESPONSEs of every kind are opened, each from bytes that stand in layout_response.h. What takes frames is tried with each TLR CONTROL
- * in them: the answers are the same. Prints one line. */
+ * in them: the answers are the same. All records are tried under both editions, with several values and with several TPTTs in read DATA and
+ * RESPONSEs that arrive; what only an edition changes is in layout_edition.h. Prints one line. */
 #include "layout.h"
 #include "layout_read.h"
 #include "layout_write.h"
 #include "layout_rest.h"
 #include "layout_response.h"
+#include "layout_edition.h"
 
 int main(void) {
     unsigned i;
@@ -16,17 +18,23 @@ int main(void) {
     for (i = 0; i < sizeof iu; i++) {
         iu[i] = (uint8_t)(i * 7 + 1);
     }
-    transfer_fields();
-    sender_fields();
-    for (arriving = 0; arriving <= SSP_TLR_MOST; arriving++) {
-        receiver_fields();
-        writer_fields();
-        target_fields();
+    for (i = 0; i < sizeof editions / sizeof editions[0]; i++) {
+        now = editions[i];
+        transfer_fields();
+        sender_fields();
+        for (arriving = 0; arriving <= SSP_TLR_MOST; arriving++) {
+            receiver_fields();
+            writer_fields();
+            target_fields();
+        }
+        responder_fields();
+        arriving = 0;
+        response_opened();
     }
-    responder_fields();
+    now = editions[0];
     header_fields();
     writer_steps();
-    response_opened();
+    edition_fields();
     if (wrong > 0) {
         printf("%u of %u checks failed\n", wrong, checks);
         return 1;

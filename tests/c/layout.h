@@ -28,6 +28,14 @@ static uint8_t out[SSP_FRAME_MOST];
 static uint8_t iu[SSP_FRAME_MOST];
 static uint8_t arriving; /* TLR CONTROL of the frames that arrive */
 
+/* The edition of the transfers, with their value, and the TPTT of read DATA and RESPONSEs that arrive. layout.c runs the tests under several. */
+typedef struct edition {
+    bool sas2;
+    uint16_t value;
+    uint16_t tptt;
+} edition;
+static edition now;
+
 /* ---- answers, all fields ---- */
 
 static int is(ssp_answer a, int what, unsigned number, uint64_t frames, size_t start, size_t len) {
@@ -48,7 +56,8 @@ static int says(ssp_answer a, int what) { return is(a, what, 0, 0, 0, 0); }
 
 static int same_transfer(ssp_transfer a, ssp_transfer b) {
     return a.write == b.write && a.count == b.count && a.size == b.size && a.window == b.window && a.limit == b.limit &&
-           a.burst == b.burst && a.local == b.local && a.remote == b.remote && a.tag == b.tag;
+           a.burst == b.burst && a.local == b.local && a.remote == b.remote && a.tag == b.tag && a.sas2 == b.sas2 &&
+           a.value == b.value;
 }
 static int same_burst(ssp_burst a, ssp_burst b) {
     return a.base == b.base && a.end == b.end && a.tptt == b.tptt && a.limit == b.limit;
@@ -94,6 +103,8 @@ static ssp_transfer transfer(bool write, uint32_t local, uint32_t remote) {
     t.local = local;
     t.remote = remote;
     t.tag = TAG;
+    t.sas2 = now.sas2;
+    t.value = now.value;
     return t;
 }
 
@@ -191,6 +202,7 @@ static ssp_answer arrive(ssp_read_initiator *r, uint32_t offset, bool cdp, size_
     h.tlr = arriving;
     h.cdp = cdp;
     h.offset = offset;
+    h.tptt = now.tptt;
     f = ssp_frame_write(h, data + offset, n, out, sizeof out);
     memset(room, 0xEE, sizeof room);
     return ssp_read_initiator_frame_received(r, out, f.len, room, len);

@@ -103,14 +103,14 @@ static void sender_fields(void) {
     SENDER(transfer.local, 0x1000000, refused(ask(&s), 1));
     SENDER(transfer.remote, 0x040506, framed(ask(&s), 32) && be(1, 3) == 0x040506 && be(5, 3) == THERE);
     SENDER(transfer.remote, 0x1000000, refused(ask(&s), 1));
-    SENDER(transfer.tag, 0xBEEF, framed(ask(&s), 32) && be(16, 2) == 0xBEEF && be(18, 2) == 0);
+    SENDER(transfer.tag, 0xBEEF, framed(ask(&s), 32) && be(16, 2) == 0xBEEF && be(18, 2) == now.value);
     SENDER(burst.base, 8, framed(ask(&s), 32));
     SENDER(burst.base, 9, refused(ask(&s), 1)); /* above the balance point */
     SENDER(burst.end, 20, framed(ask(&s), 28));
     SENDER(burst.end, 16, says(ask(&s), SSP_WAIT));
     SENDER(burst.end, 15, refused(ask(&s), 1)); /* below the next offset */
     SENDER(burst.end, 47, refused(ask(&s), 1)); /* above the byte count */
-    SENDER(burst.tptt, 0xBEEF, framed(ask(&s), 32) && be(18, 2) == 0 && s.burst.tptt == 0xBEEF);
+    SENDER(burst.tptt, 0xBEEF, framed(ask(&s), 32) && be(18, 2) == now.value && s.burst.tptt == 0xBEEF);
     SENDER(burst.limit, 1, failed(ssp_read_target_ack_nak_timeout(&s), 29, 5) && s.ended);
     SENDER(burst.limit, 0, refused(ssp_read_target_ack_nak_timeout(&s), 1)); /* below the retries */
     SENDER(burst.limit, 3, refused(ssp_read_target_ack_nak_timeout(&s), 1)); /* above the transfer's */
@@ -130,7 +130,7 @@ static void sender_fields(void) {
     SENDER(nak, false, says(ssp_read_target_ack_received(&s), SSP_TAKEN) && says(ssp_read_target_ack_received(&s), SSP_TAKEN) && s.balance == 16);
     SENDER(nak, true, says(ssp_read_target_ack_received(&s), SSP_TAKEN) && says(ssp_read_target_ack_received(&s), SSP_RETRY) && !s.nak && s.cdp);
     SENDER(nak, false, says(ssp_read_target_nak_received(&s), SSP_TAKEN) && s.nak && s.unanswered == 1);
-    SENDER(cdp, true, framed(ask(&s), 32) && out[10] == 1 && !s.cdp);
+    SENDER(cdp, true, framed(ask(&s), 32) && out[10] == 1 && be(18, 2) == now.value && !s.cdp);
     SENDER(cdp, false, framed(ask(&s), 32) && out[10] == 0);
     SENDER(retries, 0, says(ssp_read_target_ack_nak_timeout(&s), SSP_RETRY) && s.retries == 1 && s.cdp && s.unanswered == 0 && s.next == 8);
     SENDER(retries, 2, failed(ssp_read_target_ack_nak_timeout(&s), 29, 5));
@@ -163,6 +163,8 @@ static void sender_fields(void) {
         s = sender();
         for (arriving = 0; arriving <= SSP_TLR_MOST; arriving++) {
             out[10] = (uint8_t)(arriving << 3);
+            out[18] = (uint8_t)(now.tptt >> 8);
+            out[19] = (uint8_t)now.tptt;
             TRY("31 bytes at a read's target", refused(ssp_read_target_frame_received(&s, out, 31), 5) && same_sender(s, sender()));
             TRY("DATA at a read's target", refused(ssp_read_target_frame_received(&s, out, 32), 6) && same_sender(s, sender()));
         }
@@ -232,6 +234,7 @@ static void receiver_fields(void) {
         ssp_header h = header(SSP_TYPE_RESPONSE, HERE, THERE);
         ssp_answer f;
         h.tlr = arriving;
+        h.tptt = now.tptt;
         iu[10] = 0x54; /* no data */
         f = ssp_frame_write(h, iu, 24, out, sizeof out);
         TRY("a RESPONSE in a read", opened(ssp_read_initiator_frame_received(&r, out, f.len, room, COUNT), SSP_RESPONSE, 0, 24, 24, 0, iu[11], 0) && r.ended);

@@ -104,6 +104,7 @@ static void response_arrives(const iu_vector *v, size_t n) {
     ssp_write_initiator w = writer(), ended_w = writer();
     ssp_answer f, a;
     uint8_t before[SSP_FRAME_MOST];
+    h.tptt = now.tptt;
     f = ssp_frame_write(h, response_iu, n, out, sizeof out);
     memcpy(before, out, sizeof before);
     memset(room, 0xEE, sizeof room);

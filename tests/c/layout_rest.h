@@ -9,7 +9,7 @@ static void responder_fields(void) {
         TRY("a RESPONSE of more than 32 bits", refused(ssp_response_set_up(&x, want.transfer, (size_t)0x10000001C), 1));
         TRY("a RESPONSE refused: the record left", same_responder(x, want));
         TRY("a RESPONSE", framed(ask_response(&x), 52) && out[0] == SSP_TYPE_RESPONSE && out[10] == 0);
-        TRY("a RESPONSE: its IU", memcmp(out + 24, iu, 28) == 0 && be(18, 2) == 0 && be(20, 4) == 0);
+        TRY("a RESPONSE: its IU", memcmp(out + 24, iu, 28) == 0 && be(18, 2) == now.value && be(20, 4) == 0);
         want.unanswered = true;
         TRY("a RESPONSE: the record left", same_responder(x, want));
     }
@@ -18,7 +18,7 @@ static void responder_fields(void) {
     RESPONDER(transfer.window, 65, refused(ask_response(&x), 1));
     RESPONDER(transfer.limit, 16, refused(ask_response(&x), 1));
     RESPONDER(transfer.burst, 47, refused(ask_response(&x), 1));
-    RESPONDER(transfer.write, true, framed(ask_response(&x), 52)); /* of a read or a write */
+    RESPONDER(transfer.write, true, framed(ask_response(&x), 52) && be(18, 2) == now.value); /* of a read or a write */
     RESPONDER(transfer.local, 0x010203, framed(ask_response(&x), 52) && be(5, 3) == 0x010203);
     RESPONDER(transfer.remote, 0x040506, framed(ask_response(&x), 52) && be(1, 3) == 0x040506);
     RESPONDER(transfer.tag, 0xBEEF, framed(ask_response(&x), 52) && be(16, 2) == 0xBEEF);
@@ -29,7 +29,7 @@ static void responder_fields(void) {
     RESPONDER(unanswered, true, says(ssp_response_ack_received(&x), SSP_DELIVERED) && x.ended && !x.unanswered);
     RESPONDER(unanswered, false, refused(ssp_response_ack_received(&x), 4) && refused(ssp_response_nak_received(&x), 4));
     RESPONDER(unanswered, false, refused(ssp_response_ack_nak_timeout(&x), 4) && says(ssp_response_connection_lost(&x), SSP_UNCHANGED));
-    RESPONDER(retries, 1, framed(ask_response(&x), 52) && out[10] == 2); /* RETRANSMIT */
+    RESPONDER(retries, 1, framed(ask_response(&x), 52) && out[10] == 2 && be(18, 2) == now.value); /* RETRANSMIT */
     RESPONDER(retries, 3, refused(ask_response(&x), 1));
     SENT(retries, 1, says(ssp_response_nak_received(&x), SSP_RETRY) && x.retries == 2 && !x.unanswered);
     SENT(retries, 0, says(ssp_response_ack_nak_timeout(&x), SSP_RETRY) && x.retries == 1);

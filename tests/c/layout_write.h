@@ -113,6 +113,7 @@ static void writer_fields(void) {
         ssp_header h = header(SSP_TYPE_RESPONSE, HERE, THERE);
         ssp_answer f;
         h.tlr = arriving;
+        h.tptt = now.tptt;
         iu[10] = 0x54; /* no data */
         f = ssp_frame_write(h, iu, 24, out, sizeof out);
         w.sender.frames = MANY;
@@ -218,7 +219,7 @@ static void target_fields(void) {
     {
         ssp_write_target x = target(), want = x;
         x.receiver.expected = x.receiver.filled = x.receiver.end = 32;
-        TRY("the next XFER_RDY", framed(ask_target(&x), 36) && out[10] == 4 && be(24, 4) == 32 && be(28, 4) == 10);
+        TRY("the next XFER_RDY", framed(ask_target(&x), 36) && out[10] == 4 && be(18, 2) == 3 && be(24, 4) == 32 && be(28, 4) == 10);
         want.receiver.base = want.receiver.expected = want.receiver.filled = 32;
         want.receiver.end = 42;
         want.state = SSP_STATE_UNANSWERED;

@@ -54,6 +54,9 @@ kept = sum(path.parts[-2] == "must-fail" for path in edits)
 for pattern, truth in [(r"\| (\d+) crates, \d+ edits \|", len(crates)), (r"\| \d+ crates, (\d+) edits \|", kept), (r"\| (\d+) logs \|", kept)]:
     if re.findall(pattern, page("docs/TESTING.md")) != [str(truth)]:
         wrong("docs/TESTING.md", f"{pattern} is {truth}")
+mutants = sum(path.read_text(encoding="utf-8").count("\nname: ") for path in (root / "tests/reference/mutants.d").glob("*.edits"))
+if re.findall(r"applies (\d+) single edits", page("docs/TESTING.md")) != [str(mutants)]:
+    wrong("docs/TESTING.md", f"tests/reference/mutants.d has {mutants} edits")
 exported = len(sources.functions(root, "ssp"))
 if re.findall(r"exports (\d+) C functions", page("docs/RULES.md")) != [str(exported)]:
     wrong("docs/RULES.md", f"crate ssp exports {exported} C functions")

@@ -4,13 +4,19 @@ use mathlib.Core.List.{List}
 use mathlib.Core.Bool.{Bool, true, false}
 use mathlib.Core.Path.{_≡_, refl, sym, ap, _∙_}
 use lib.Dec.{leb}
-use lib.ListN.{length}
+use lib.ListN.{length, take, drop}
+use lib.Seq.{take-at}
 use Rattle.status.specs.Pick.{pick}
 use Rattle.status.specs.Answer.{Said, Left, _saying_}
 use Rattle.status.specs.Result.{Result}
 use Rattle.frame.specs.Format.{encode}
-use Rattle.frame.specs.Write.{writable, writeAnswer, answered, put, handing, hands}
+use Rattle.frame.specs.Write.{writable, writeAnswer, answered, over, put, handing, hands}
 use Rattle.frame.specs.declared.types.Header.{Header}
+
+-- a frame handed out stands at the front of the output buffer
+pub over-front : (f d : List ℕ) → take (length f) (over f d) ≡ f
+unfolding over
+over-front f d = take-at f (drop (length f) d) (length f) refl
 
 -- the writer leaves what the port says that it left
 put-handing : {X : Type 0} (x y : X) (f out : List ℕ) (a : Result ℕ) → put a f out ≡ handing (answered x y a .says) f out

@@ -8,5 +8,8 @@ pub mod RoundTrip
 pub mod Hands
 pub mod ByKind
 pub mod Parts
+pub mod Alike
 pub mod TlrControl
+pub mod TransferTag
+pub mod Carries
 pub mod ResponseForms

@@ -4,6 +4,8 @@ pub mod TwoSteps
 pub mod Read
 pub mod Reserved
 pub mod TlrControl
+pub mod TransferTag
+pub mod HandedOut
 pub mod RoundTrip
 pub mod XferRdy
 pub mod Lent

@@ -10,5 +10,5 @@ pub mod WriteSame
 pub mod WriteEnded
 pub mod WriteKept
 pub mod WriteRepeat
-pub mod TlrControl
+pub mod Alike
 pub mod SenseBack

@@ -46,8 +46,8 @@ use Rattle.target.proofs.Views.{HandedOut, handed-out}
 use Rattle.link.specs.Reading.{readPorts}
 use Rattle.link.specs.Writing.{writePorts}
 use Rattle.link.specs.Delivers.{fresh as world}
-use Rattle.link.specs.Claim.{Alike, Starts, xferRdySent}
-use Rattle.link.proofs.Asking.{over-front}
+use Rattle.link.specs.Claim.{Alike, sas11, Starts, xferRdySent}
+use Rattle.frame.proofs.Hands.{over-front}
 use Rattle.ladder_text.specs.Rows.{withinLimits}
 use Rattle.ladder_text.specs.Rows as rows
 use Rattle.ladder_text.proofs.Choose.{each}
@@ -89,7 +89,7 @@ initiator-limits r write w = transfer-holds r write INITIATOR TARGET w (omega ar
 
 -- "both ports set up alike (limits, addresses, tag)"
 alike : (r : Run) (write : Bool) (local remote : ℕ) → Alike (transferOf r write local remote) (transferOf r write remote local)
-alike r write local remote = record { count = refl; size = refl; window = refl; limit = refl; there = refl; back = refl; tag = refl; tag-bits = omega arith }
+alike r write local remote = record { count = refl; size = refl; window = refl; limit = refl; there = refl; back = refl; tag = refl; tag-bits = omega arith; value-bits = omega arith }
 
 -- ── a read ──
 abbrev pub read-sender : Run → Sender
@@ -230,17 +230,17 @@ module _ (r : Run) where
     write-sets-up e = rw (le-leb _ _ (w .count-most), e, initiator-limits r true w, target-limits r true w, exchanges)
 
     -- ── the delivery claim starts there ──
-    pub write-starts : (d b : List ℕ) → 1 ≤ r .limit → length d ≡ r .count → length b ≡ r .count → Starts writePorts (burst-of r) (world writePorts write-sender write-target d b)
+    pub write-starts : (d b : List ℕ) → 1 ≤ r .limit → length d ≡ r .count → length b ≡ r .count → Starts writePorts sas11 (burst-of r) (world writePorts write-sender write-target d b)
     write-starts d b on dl bl =
-        subst (λ (v : Left Target). Starts writePorts (record { base = v .left .receiver .base; end = v .left .receiver .end; size = r .size; limit = r .limit }) (world writePorts write-sender write-target d b)) hands-out
-        (subst₂ (λ (v : Left Writer) (c : Target). Starts writePorts (record { base = nextOf (target.startOf there) area .left .receiver .base; end = nextOf (target.startOf there) area .left .receiver .end; size = r .size; limit = r .limit }) (world writePorts (v .left) c d b)) takes-first acked
+        subst (λ (v : Left Target). Starts writePorts sas11 (record { base = v .left .receiver .base; end = v .left .receiver .end; size = r .size; limit = r .limit }) (world writePorts write-sender write-target d b)) hands-out
+        (subst₂ (λ (v : Left Writer) (c : Target). Starts writePorts sas11 (record { base = nextOf (target.startOf there) area .left .receiver .base; end = nextOf (target.startOf there) area .left .receiver .end; size = r .size; limit = r .limit }) (world writePorts (v .left) c d b)) takes-first acked
         (Starts.write (initiator.startOf here) (target.startOf there) area d b 36 waits-well refl refl (alike r true INITIATOR TARGET) on dl bl
         (ap (λ (v : Left Target). v .says) hands-out) (ap (λ (v : Left Writer). takes (v .says)) takes-first) (ap (λ (v : Left Target). ackOf (v .left) .says) hands-out ∙ ap (λ (v : Left Target). v .says) acks)))
       where
         acked : ackOf (nextOf (target.startOf there) area .left) .left ≡ write-target
         acked = ap (λ (v : Left Target). ackOf (v .left) .left) hands-out ∙ ap (λ (v : Left Target). v .left) acks
 
-pub read-starts : (r : Run) → Within r → (d b : List ℕ) → 1 ≤ r .limit → length d ≡ r .count → length b ≡ r .count → Starts readPorts (burst-of r) (world readPorts (read-sender r) (read-receiver r) d b)
+pub read-starts : (r : Run) → Within r → (d b : List ℕ) → 1 ≤ r .limit → length d ≡ r .count → length b ≡ r .count → Starts readPorts sas11 (burst-of r) (world readPorts (read-sender r) (read-receiver r) d b)
 unfolding granted pick
 read-starts r w d b on dl bl =
     Starts.read (transferOf r false TARGET INITIATOR) (transferOf r false INITIATOR TARGET) (read-sender r) (read-receiver r) d b (rw (target-limits r false w)) (rw (initiator-limits r false w))

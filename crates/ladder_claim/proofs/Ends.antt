@@ -90,7 +90,7 @@ ends r l fs d b s = go (begun r l (s .within) (s .ready))
     go : {m : Ladder} → Begun r m → Ended r fs (wholeOf fs d m b)
     go (Begun.read e) =
         let w = within r (s .within) in
-        from-start r w (length fs) (s .few) false TARGET INITIATOR (target-limits r false w) fs d b _ _ refl (s .sent) (read-sends (read-sender r) refl)
+        from-start r w (length fs) (s .few) false TARGET INITIATOR (target-limits r false w) fs d b _ _ refl (s .sent) (read-sends 0 (read-sender r) refl)
     go (Begun.write e) =
         let w = within r (s .within) in
         let m = held (write-sender r) (write-sender-holds r w) .marks in

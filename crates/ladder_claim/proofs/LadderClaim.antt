@@ -16,7 +16,7 @@ use Rattle.link.specs.World.{World}
 use Rattle.link.specs.World as link
 use Rattle.link.specs.Delivers.{Delivers, faultless}
 use Rattle.link.specs.Delivers as delivers
-use Rattle.link.specs.Claim.{Starts}
+use Rattle.link.specs.Claim.{sas11, Starts}
 use Rattle.link.proofs.Theorem.{delivery}
 use Rattle.ladder_text.specs.declared.types.Run.{Run}
 use Rattle.ladder_run.specs.Fates.{faultsOf}
@@ -45,7 +45,7 @@ reported (Delivered n) e f = differ (cc)
 reported (Failed g n) e f = differ (cc)
 
 module _ {P : Ports} (E : Embeds P) (r : Run) (s : P .Sending) (y : P .Receiving) (fs d b : List ℕ) (fills : Fills E (delivers.fresh P s y d b) (r .count))
-    (starts : Starts P (burstOf r) (delivers.fresh P s y d b)) (dl : length d ≡ r .count) (bl : length b ≡ r .count) (k : ℕ) where
+    (starts : Starts P sas11 (burstOf r) (delivers.fresh P s y d b)) (dl : length d ≡ r .count) (bl : length b ≡ r .count) (k : ℕ) where
   abbrev whole : Whole
   whole = climbed E r s y fs d b fills k
 
@@ -55,7 +55,7 @@ module _ {P : Ports} (E : Embeds P) (r : Run) (s : P .Sending) (y : P .Receiving
   last = at last-s last-r d (whole .received) confirmations tally handed (onLink (whole .last .report))
 
   claim : Delivers (burstOf r) (delivers.fresh P s y d b) last
-  claim = subst (Delivers (burstOf r) (delivers.fresh P s y d b)) (reached .ends) (delivery P (burstOf r) _ starts (reached .events) (reached .allowed))
+  claim = subst (Delivers (burstOf r) (delivers.fresh P s y d b)) (reached .ends) (delivery P sas11 (burstOf r) _ starts (reached .events) (reached .allowed))
 
   few : tally .faults ≤ faultsOf fs (whole .last .frames)
   few = omega (arith, level .faults)

@@ -8,7 +8,7 @@ use Rattle.link.specs.Ports.{Ports}
 use Rattle.link.specs.Tally.{nothing}
 use Rattle.link.specs.World.{World}
 use Rattle.link.specs.Delivers as delivers
-use Rattle.link.specs.Claim.{Starts}
+use Rattle.link.specs.Claim.{sas11, Starts}
 use Rattle.ladder_text.specs.declared.types.Run.{Run}
 use Rattle.ladder_run.specs.Row.{ROWS-MOST}
 use Rattle.ladder_run.specs.Setup.{fresh}
@@ -47,11 +47,12 @@ module _ {P : Ports} (E : Embeds P) (r : Run) (s : P .Sending) (y : P .Receiving
   pub stands : (k : ℕ) → Stands E (delivers.fresh P s y d b) (r .count) fs d (climbed k .last) (climbed k .received) (map shownIn (climbed k .rows))
   stands k = climb-stands E _ (r .count) fills fs d k _ b [] first-stands
 
-  pub listed : (k : ℕ) → Starts P (burstOf r) (delivers.fresh P s y d b) → Listed r fs d b (climbed k)
+  pub listed : (k : ℕ) → Starts P sas11 (burstOf r) (delivers.fresh P s y d b) → Listed r fs d b (climbed k)
   listed k starts =
       let g = stands k in
       record {
         P = P;
+        editions = sas11;
         start = delivers.fresh P s y d b;
         starts = starts;
         sent = refl;

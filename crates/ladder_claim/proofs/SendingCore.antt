@@ -15,17 +15,17 @@ use Rattle.ladder_run.specs.Ends.{askOf, signalledOf}
 use Rattle.ladder_run.specs.declared.types.Sending.{Sending}
 use Rattle.ladder_run.specs.declared.types.Sending.the-variants as sending
 
--- the port x stands for the core's record s; the tag of a write's burst does not matter here
+-- the port x stands for the core's record s; the TPTT of its frames does not matter here
 abbrev pub SendsAs : Sending → Sender → Type 0
-SendsAs (sending.Read x) s = read-simulates .SendsAs x s
+SendsAs (sending.Read x) s = read-simulates 0 .SendsAs x s
 SendsAs (sending.Write w) s = write-simulates 0 .SendsAs w s
 
 pub asks-as : (x : Sending) (s : Sender) (d out : List ℕ) → SendsAs x s → lentOf s (length d) ≡ true →
     SendsAs (askOf x d out .left) (nextOf s d out .left) × (askOf x d out .says ≡ nextOf s d out .says)
-asks-as (sending.Read x) s d out a l = let q = read-simulates .asks-as x s d out a l in (q .0, q .1)
+asks-as (sending.Read x) s d out a l = let q = read-simulates 0 .asks-as x s d out a l in (q .0, q .1)
 asks-as (sending.Write w) s d out a l = let q = write-simulates 0 .asks-as w s d out a l in (q .0, q .1)
 
 pub told-as : (g : Signal) (x : Sending) (s : Sender) → SendsAs x s → holdsOf s ≡ true →
     SendsAs (signalledOf g x .left) (signalled g s .left) × (signalledOf g x .says ≡ signalled g s .says)
-told-as g (sending.Read x) s a h = read-simulates .signals-as g x s a h
+told-as g (sending.Read x) s a h = read-simulates 0 .signals-as g x s a h
 told-as g (sending.Write w) s a h = write-simulates 0 .signals-as g w s a h

@@ -11,7 +11,7 @@ use Rattle.link.specs.Ports.{Ports}
 use Rattle.link.specs.World.{World, Event, run, Allowed}
 use Rattle.link.specs.World as link
 use Rattle.link.specs.Delivers.{BurstParameters, faultless}
-use Rattle.link.specs.Claim.{Starts}
+use Rattle.link.specs.Claim.{Editions, Starts}
 use Rattle.ladder_text.specs.Rows.{withinLimits}
 use Rattle.ladder_text.specs.declared.types.Run.{Run}
 use Rattle.ladder_text.specs.declared.types.Row.{Row}
@@ -86,8 +86,9 @@ pub record Matches {P : Ports} (fs : List ℕ) (w : World P) (x : Whole) : Type 
 -- "a ladder is one of its lists": from a start of the claim, with the ladder's sent and received data
 pub record Listed (r : Run) (fs d b : List ℕ) (x : Whole) : Type 1 where
   pub P : Ports
+  pub editions : Editions
   pub start : World P
-  pub starts : Starts P (burstOf r) start
+  pub starts : Starts P editions (burstOf r) start
   pub sent : start .sent ≡ d
   pub room : start .received ≡ b
   pub events : List (Event P)

@@ -13,7 +13,7 @@ use Rattle.status.proofs.Choose.{and-true}
 use Rattle.frame.specs.Read.{headerIn, decode}
 use Rattle.frame.specs.Write.{handing}
 use Rattle.link.specs.Ports.{Called}
-use Rattle.link.proofs.Asking.{over-front}
+use Rattle.frame.proofs.Hands.{over-front}
 use Rattle.ladder_text.specs.Words.{receiptWord}
 use Rattle.ladder_text.specs.Laws.{ReceiptFits}
 use Rattle.ladder_text.proofs.Lengths.{digits-most, fate-most, outcome-most}

@@ -30,6 +30,8 @@ fn transfer(r: Run, write: bool, local: u32, remote: u32) -> Transfer
         local: local,
         remote: remote,
         tag: Ladder::TAG,
+        sas2: false,
+        value: 0,
     }
 }
 

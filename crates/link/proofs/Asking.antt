@@ -6,9 +6,9 @@ use mathlib.Core.Logic.{_⊎_, inl, inr}
 use mathlib.Core.Path.{_≡_, refl, sym, ap, subst, _∙_}
 use native.Mathlib.Omega.{arith}
 use native.Mathlib.Numerals.{add-one}
-use lib.ListN.{length, take, drop, length-append}
-use lib.Seq.{take-at}
+use lib.ListN.{length, take, length-append}
 use Rattle.frame.specs.Write.{over, handing}
+use Rattle.frame.proofs.Hands.{over-front}
 use Rattle.transfer.specs.declared.Transfer.{Transfer}
 use Rattle.status.specs.Answer.{Said, Left}
 use Rattle.sender_steps.specs.Record.{lentOf}
@@ -31,10 +31,6 @@ use Rattle.link.proofs.Numbers.{few, j-most, retries-most}
 -- a call's outcome with its answer and buffer as they are known to be
 pub outcome : {X : Type 0} (x : Called X) {t : Said} {b : List ℕ} → x .says ≡ t → x .lent ≡ b → x ≡ record { left = x .left; says = t; lent = b }
 outcome x p q i = record { left = x .left; says = p i; lent = q i }
-
-pub over-front : (f d : List ℕ) → take (length f) (over f d) ≡ f
-unfolding over
-over-front f d = take-at f (drop (length f) d) (length f) refl
 
 module _ {P : Ports} (S : Setting) (M : Simulates P (S .tptt)) (w : World P) (l : Live S M w) where
   open Live l using (s, r, c, k, m, j, R, sends, ported, stored, reached, marked, linked, pending, counted, standing, silent)

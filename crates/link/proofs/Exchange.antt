@@ -44,7 +44,7 @@ use Rattle.link.proofs.Grid.{at-first}
 use Rattle.link.proofs.Setting.{Setting, sized}
 use Rattle.link.proofs.Flight.{Flight}
 use Rattle.link.proofs.Invariant.{Standing, Live, live}
-use Rattle.link.proofs.Asking.{over-front}
+use Rattle.frame.proofs.Hands.{over-front}
 use Rattle.link.proofs.Delivery.{delivers}
 use Rattle.link.proofs.Filled.{Fills, fills}
 use Rattle.link.proofs.WriteSimulates.{Ready, WritesAs, TakesAs, write-simulates, write-sends, write-takes, write-filled}
@@ -211,7 +211,7 @@ module _ (x : Writer) (y : Target) (out d b : List ℕ) (n : ℕ) (hx : holdsOf 
       }))
       (record {
         takes = write-takes (issuedOf y .tptt) (acknowledgedOf (issuedOf y)) _ (record { receiver = refl; ready = refl; current = refl; holds = acknowledged-holds (issuedOf y) (acked .holds) (acked .state) });
-        send-for = record { transfer = refl; limit = refl; tptt = ap (λ (v : Bool). pick v (issuedOf y .tptt) 0) (held x hx .write); base = refl; end = refl };
+        send-for = record { transfer = refl; limit = refl; tptt = ap (λ (v : Bool). pick v (issuedOf y .tptt) (x .sender .transfer .value)) (held x hx .write); base = refl; end = refl };
         take-for = record { transfer = same-transfer; base = refl; end = refl };
         s-holds = held writer writer-holds .holds;
         s-open = refl;

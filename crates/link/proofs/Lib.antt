@@ -24,3 +24,4 @@ pub mod Resent
 pub mod TakenAgain
 pub mod EndedRefuses
 pub mod OneFault
+pub mod CarriesValue

@@ -148,28 +148,29 @@ read-steady =
       receive-call-refused = reader-refused;
     }
 
-pub read-simulates : Simulates readPorts 0
-read-simulates =
+-- whatever TPTT the DATA frames have
+pub read-simulates : (tptt : ℕ) → Simulates readPorts tptt
+read-simulates tptt =
     record {
       SendsAs = SendsRead;
       TakesAs = ReadsAs;
       asks-as = sends-ask;
       signals-as = sends-signal;
-      arrives-as = λ y r h iu b e l o a c. subst (λ (v : Receiver). ReadsAs (readArrivalOf v (encode h iu) (length b) .left) (arrivalOf r (h .offset) (h .flags .cdp) (length iu) (length b) .left) × (storing (readArrivalOf v (encode h iu) (length b) .says) (headerIn (encode h iu) .offset) (iuOf (encode h iu)) b ≡ storing (arrivalOf r (h .offset) (h .flags .cdp) (length iu) (length b) .says) (h .offset) iu b)) (sym (e .is)) (reads-on r (e .read) h iu b 0 l o a c, lands r (e .read) h iu b 0 l o a c);
+      arrives-as = λ y r h iu b e l o a c. subst (λ (v : Receiver). ReadsAs (readArrivalOf v (encode h iu) (length b) .left) (arrivalOf r (h .offset) (h .flags .cdp) (length iu) (length b) .left) × (storing (readArrivalOf v (encode h iu) (length b) .says) (headerIn (encode h iu) .offset) (iuOf (encode h iu)) b ≡ storing (arrivalOf r (h .offset) (h .flags .cdp) (length iu) (length b) .says) (h .offset) iu b)) (sym (e .is)) (reads-on r (e .read) h iu b tptt l o a c, lands r (e .read) h iu b tptt l o a c);
       steady = read-steady;
       late-sends = λ c l x s e h. sender-late c l x s e;
       late-receives = reader-late;
     }
 
 -- each record stands for itself
-pub read-sends : (s : Sender) → s .transfer .write ≡ false → read-simulates .SendsAs s s
+pub read-sends : (tptt : ℕ) (s : Sender) → s .transfer .write ≡ false → read-simulates tptt .SendsAs s s
 unfolding read-simulates
-read-sends s v = record { is = refl; read = v }
+read-sends tptt s v = record { is = refl; read = v }
 
-pub read-takes : (r : Receiver) → r .transfer .write ≡ false → read-simulates .TakesAs r r
+pub read-takes : (tptt : ℕ) (r : Receiver) → r .transfer .write ≡ false → read-simulates tptt .TakesAs r r
 unfolding read-simulates
-read-takes r v = record { is = refl; read = v }
+read-takes tptt r v = record { is = refl; read = v }
 
-pub read-filled : (y r : Receiver) → read-simulates .TakesAs y r → y .filled ≡ r .filled
+pub read-filled : (tptt : ℕ) (y r : Receiver) → read-simulates tptt .TakesAs y r → y .filled ≡ r .filled
 unfolding read-simulates
-read-filled y r a = ap (λ (v : Receiver). v .filled) (a .is)
+read-filled tptt y r a = ap (λ (v : Receiver). v .filled) (a .is)

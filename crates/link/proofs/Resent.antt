@@ -37,7 +37,7 @@ use Rattle.target.proofs.Views.{Came, came}
 use Rattle.link.specs.Ports.{Signal, frameIn}
 use Rattle.link.specs.Calls.{TargetCall, targetCall}
 use Rattle.link.specs.Resent.{again, Again, xferRdysOf, Repeats, InTurn, HandedOutAgain}
-use Rattle.link.proofs.Asking.{over-front}
+use Rattle.frame.proofs.Hands.{over-front}
 
 -- a header sent again comes back so
 module _ (h : Header) (n : ℕ) (iu : List ℕ) (small : h .flags .tlr < 4) where

@@ -52,7 +52,7 @@ pub record Setting : Type 0 where
 pub record SendsFor (S : Setting) (t′ : Transfer) (b : Burst) : Type 0 where
   pub transfer : t′ ≡ S .t
   pub limit : b .limit ≡ S .limit
-  pub tptt : pick (t′ .write) (b .tptt) 0 ≡ S .tptt
+  pub tptt : pick (t′ .write) (b .tptt) (t′ .value) ≡ S .tptt
   pub base : b .base ≡ S .base
   pub end : b .end ≡ S .end
 

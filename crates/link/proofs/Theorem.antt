@@ -53,7 +53,7 @@ module _ (t u : Transfer) (d b : List ℕ) (tl : limitsHold t ≡ true) (tr : t 
         u = u;
         base = 0;
         end = t .count;
-        tptt = 0;
+        tptt = t .value;
         limit = t .limit;
         source = d;
         before = b;
@@ -64,7 +64,7 @@ module _ (t u : Transfer) (d b : List ℕ) (tl : limitsHold t ≡ true) (tr : t 
         back = a .back;
         tag = a .tag;
         tag-bits = a .tag-bits;
-        tptt-bits = omega arith;
+        tptt-bits = a .value-bits;
         some = bounds t tl .count-least;
         end-most = omega arith;
         on = on;
@@ -80,15 +80,15 @@ module _ (t u : Transfer) (d b : List ℕ) (tl : limitsHold t ≡ true) (tr : t 
   abbrev got-of : Receiver
   got-of = receiver-step.beginning u 0 (u .count)
 
-  begins : Live setting read-simulates (fresh readPorts sent-of got-of d b)
+  begins : Live setting (read-simulates (t .value)) (fresh readPorts sent-of got-of d b)
   unfolding pick
   begins =
       let lt = bounds t tl in
       let z = zero-mul (t .size) in
-      live setting read-simulates sent-of got-of false 0 0 0 0 (read-sends sent-of tr)
+      live setting (read-simulates (t .value)) sent-of got-of false 0 0 0 0 (read-sends (t .value) sent-of tr)
       (record {
-        takes = read-takes got-of ur;
-        send-for = record { transfer = refl; limit = refl; tptt = ap (λ (v : Bool). pick v 0 0) tr; base = refl; end = refl };
+        takes = read-takes (t .value) got-of ur;
+        send-for = record { transfer = refl; limit = refl; tptt = ap (λ (v : Bool). pick v 0 (t .value)) tr; base = refl; end = refl };
         take-for = record { transfer = refl; base = refl; end = sym (a .count) };
         s-holds = sender-kept.begins-holds t (sender.whole t) tl (omega arith) (omega arith) (omega arith);
         s-open = refl;
@@ -113,14 +113,14 @@ set-up-as t u s r d b Q hs hr f =
     subst₂ (λ (v : Sender) (q : Receiver). Q (fresh readPorts v q d b)) (x .1) (y .1) (f (xs .0) (read-only (t .write) (xs .1 .0)) (ys .0) (read-only (u .write) (ys .1 .0)))
 
 pub delivery : DeliveryClaim
-delivery P b w (Starts.read t u s r d e hs hr a on dl bl) =
+delivery P x b w (Starts.read t u s r d e hs hr a on dl bl) =
     set-up-as t u s r d e (Always (record { base = 0; end = t .count; size = t .size; limit = t .limit })) hs hr
-    (λ tl tr ul ur. delivers (setting t u d e tl tr ul ur a on dl bl) read-simulates _ (refl, refl) (inl (begins t u d e tl tr ul ur a on dl bl)))
-delivery P b w (Starts.write x y out d e n hx ox zx a on dl el hands took acks) = write-delivers x y out d e n hx ox zx a on dl el hands took acks
+    (λ tl tr ul ur. delivers (setting t u d e tl tr ul ur a on dl bl) (read-simulates (t .value)) _ (refl, refl) (inl (begins t u d e tl tr ul ur a on dl bl)))
+delivery P z b w (Starts.write x y out d e n hx ox zx a on dl el hands took acks) = write-delivers x y out d e n hx ox zx a on dl el hands took acks
 
 -- with the report of a read's delivery the initiator's filled mark is the byte count
 pub read-fills : (t u : Transfer) (s : Sender) (r : Receiver) (d b : List ℕ) → sender.setUpReadOf t ≡ Result.value s → receiver.setUpReadOf u ≡ Result.value r → Alike t u → 1 ≤ t .limit →
     length d ≡ t .count → length b ≡ t .count → Fills {P = readPorts} (λ v. v .filled) (t .count) (fresh readPorts s r d b)
 read-fills t u s r d b hs hr a on dl bl =
     set-up-as t u s r d b (Fills {P = readPorts} (λ v. v .filled) (t .count)) hs hr
-    (λ tl tr ul ur. fills (setting t u d b tl tr ul ur a on dl bl) read-simulates (λ v. v .filled) read-filled _ (inl (begins t u d b tl tr ul ur a on dl bl)))
+    (λ tl tr ul ur. fills (setting t u d b tl tr ul ur a on dl bl) (read-simulates (t .value)) (λ v. v .filled) (read-filled (t .value)) _ (inl (begins t u d b tl tr ul ur a on dl bl)))

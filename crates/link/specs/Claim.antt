@@ -2,7 +2,7 @@
 -- Events and the lists that are allowed are in specs/World, faults in specs/Tally; the ports' steps are those that their contracts cite (specs/Reading, specs/Writing).
 use Prim.Native.Nat.{ℕ, _^_, _≤_, _<_}
 use mathlib.Core.List.{List}
-use mathlib.Core.Bool.{true, false}
+use mathlib.Core.Bool.{Bool, true, false}
 use mathlib.Core.Path.{_≡_}
 use lib.ListN.{length, take}
 use Rattle.status.specs.Answer.{Word, Said}
@@ -26,8 +26,8 @@ use Rattle.link.specs.Writing.{writePorts}
 use Rattle.link.specs.World.{World, Event, run, Allowed}
 use Rattle.link.specs.Delivers.{BurstParameters, fresh, Delivers}
 
--- "both ports set up alike (limits, addresses, tag)": each one's local address is the other's remote one; a tag has 16 bits. A read has no
--- burst size, and a write burst's is its XFER_RDY's
+-- "both ports set up alike (limits, addresses, tag)": each one's local address is the other's remote one; a tag has 16 bits, and so has the sending port's value. A read has no
+-- burst size, and a write burst's is its XFER_RDY's. Nothing is said of editions, and of values only the width
 pub record Alike (t u : Transfer) : Type 0 where
   pub count : t .count ≡ u .count
   pub size : t .size ≡ u .size
@@ -37,17 +37,30 @@ pub record Alike (t u : Transfer) : Type 0 where
   pub back : t .local ≡ u .remote
   pub tag : t .tag ≡ u .tag
   pub tag-bits : t .tag < 2 ^ 16
+  pub value-bits : t .value < 2 ^ 16
+
+-- Request K7: "The delivery rule takes the edition of each end as a parameter, so that any pairing delivers alike"; true is SAS-2, false SAS-1.1
+pub record Editions : Type 0 where
+  pub sending : Bool
+  pub receiving : Bool
+
+abbrev pub editions : Transfer → Transfer → Editions
+editions t u = record { sending = t .sas2; receiving = u .sas2 }
+
+-- SAS-1.1 at both ends
+abbrev pub sas11 : Editions
+sas11 = record { sending = false; receiving = false }
 
 -- the n bytes that the target put at the front of the output buffer
 abbrev pub xferRdySent : Target → List ℕ → ℕ → List ℕ
 xferRdySent y out n = take n (handing (target.nextOf y out .says) (target.frameOf y) out)
 
 -- "Take one read, .. retries on, both ports set up alike, none of its frames handed out yet"; any buffers of the byte count's length
-pub data Starts : (P : Ports) → BurstParameters → World P → Type 1 where
+pub data Starts : (P : Ports) → Editions → BurstParameters → World P → Type 1 where
   read : (t u : Transfer) (s : Sender) (r : Receiver) (d b : List ℕ) →
       sender.setUpReadOf t ≡ Result.value s → receiver.setUpReadOf u ≡ Result.value r → Alike t u → 1 ≤ t .limit →
       length d ≡ t .count → length b ≡ t .count →
-      Starts readPorts (record { base = 0; end = t .count; size = t .size; limit = t .limit }) (fresh readPorts s r d b)
+      Starts readPorts (editions t u) (record { base = 0; end = t .count; size = t .size; limit = t .limit }) (fresh readPorts s r d b)
   -- "or one write burst whose XFER_RDY had its ACK at the target before the first DATA frame": any well-formed records x and y that are set up alike, at any
   -- burst; the target hands out its XFER_RDY, the initiator takes those bytes with nothing unanswered, the target gets the ACK
   write : (x : Writer) (y : Target) (out d b : List ℕ) (n : ℕ) →
@@ -57,7 +70,7 @@ pub data Starts : (P : Ports) → BurstParameters → World P → Type 1 where
       target.nextOf y out .says ≡ Said.frame n →
       takes (writeArrivalOf x (xferRdySent y out n) .says) ≡ true →
       ackOf (target.nextOf y out .left) .says ≡ Said.word Word.acknowledged →
-      Starts writePorts
+      Starts writePorts (editions (x .sender .transfer) (y .receiver .transfer))
       (record {
         base = target.nextOf y out .left .receiver .base;
         end = target.nextOf y out .left .receiver .end;
@@ -70,6 +83,6 @@ pub data Starts : (P : Ports) → BurstParameters → World P → Type 1 where
 abbrev pub Always : {P : Ports} → BurstParameters → World P → Type 0
 Always {P} b start = (es : List (Event P)) → Allowed start es → Delivers b start (run start es)
 
--- the claim, proved in proofs/Theorem
+-- the claim, proved in proofs/Theorem: for any editions, on which there is no premise
 abbrev pub DeliveryClaim : Type 1
-DeliveryClaim = (P : Ports) (b : BurstParameters) (w : World P) → Starts P b w → Always b w
+DeliveryClaim = (P : Ports) (e : Editions) (b : BurstParameters) (w : World P) → Starts P e b w → Always b w

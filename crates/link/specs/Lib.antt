@@ -10,3 +10,4 @@ pub mod Claim
 pub mod TakenAlike
 pub mod Resent
 pub mod EndedRefuses
+pub mod CarriesValue

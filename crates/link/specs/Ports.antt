@@ -1,9 +1,8 @@
 -- A pair of ports as the link meets it: two records, moved only by the definitions that the ports' contracts cite.
 use Prim.Native.Nat.{ℕ}
-use mathlib.Core.List.{List, [], _∷_}
-use lib.ListN.{take}
-use Rattle.status.specs.Pick.{ifAny}
-use Rattle.status.specs.Answer.{Said, view, Left}
+use mathlib.Core.List.{List}
+use Rattle.status.specs.Answer.{Said, Left}
+pub use Rattle.frame.specs.HandedOut.{frameIn}
 
 -- a call's record as it is left, what it answers, and the lent buffer as it is left
 pub record Called (X : Type 0) : Type 0 where
@@ -13,10 +12,6 @@ pub record Called (X : Type 0) : Type 0 where
 
 abbrev pub lending : {X : Type 0} → Left X → List ℕ → Called X
 lending x b = record { left = x .left; says = x .says; lent = b }
-
--- the frame that a call handed out, if any: the bytes at the front of the output buffer
-abbrev pub frameIn : Said → List ℕ → List (List ℕ)
-frameIn a out = ifAny (view a .frame) (λ n. take n out ∷ []) []
 
 -- what a port is told without a buffer
 pub data Signal : Type 0 where

@@ -2,3 +2,4 @@ pub mod Held
 pub mod Due
 pub mod Ended
 pub mod Kept
+pub mod CarriesValue

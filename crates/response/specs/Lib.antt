@@ -2,3 +2,4 @@ pub mod Fields
 pub mod Record
 pub mod Transmit
 pub mod Confirmation
+pub mod CarriesValue

@@ -21,7 +21,8 @@ lentTests x n = holdsOf x ∷ eqb n (x .len) ∷ []
 unfoldable pub lentOf : Responder → ℕ → Bool
 lentOf x n = all (lentTests x n)
 
--- "The ports write .. RESPONSE with TPTT zero"; "data offset zero outside DATA"; resent with RETRANSMIT one, the rest the same; TLR CONTROL zero (request K8)
+-- "every read DATA and RESPONSE of the command carries it, resent ones too": the transfer's value as TPTT (request K7; under SAS-1.1 zero); "data offset zero outside DATA";
+-- resent with RETRANSMIT one, the rest the same; TLR CONTROL zero (request K8)
 unfoldable pub responseHeader : Responder → Header
 responseHeader x =
     record {
@@ -30,7 +31,7 @@ responseHeader x =
       source = x .transfer .local;
       flags = record { tlr = 0; retry = false; retransmit = ltb 0 (x .retries); cdp = false };
       tag = x .transfer .tag;
-      tptt = 0;
+      tptt = x .transfer .value;
       offset = 0;
     }
 

@@ -23,7 +23,7 @@ fn lent(x: Responder, n: usize) -> bool
     holds & (n == len)
 }
 
-// RETRANSMIT is one where it is sent again.
+// RETRANSMIT is one where it is sent again; the transfer's value stands in each.
 fn header(x: Responder) -> Header
     ensures { λ r. ⌜ r ≡ responseHeader x ⌝ }
 {
@@ -39,7 +39,7 @@ fn header(x: Responder) -> Header
             cdp: false,
         },
         tag: t.tag,
-        tptt: 0,
+        tptt: t.value,
         offset: 0,
     }
 }

@@ -5,3 +5,4 @@ pub mod Views
 pub mod Kept
 pub mod Ended
 pub mod Shape
+pub mod CarriesValue

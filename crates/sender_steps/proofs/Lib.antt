@@ -3,3 +3,4 @@ pub mod Due
 pub mod Fits
 pub mod Counting
 pub mod Ended
+pub mod CarriesValue

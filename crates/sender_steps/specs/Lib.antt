@@ -3,3 +3,4 @@ pub mod Record
 pub mod Transmit
 pub mod Count
 pub mod Confirmation
+pub mod CarriesValue

@@ -20,7 +20,8 @@ waitsOf s = s .nak || leb (s .transfer .window) (s .unanswered) || eqb (s .next)
 abbrev pub lesser : Sender → ℕ
 lesser s = min (s .transfer .size) (s .burst .end - s .next)
 
--- "The ports write read DATA .. with TPTT zero"; "write DATA carries the TPTT of its burst's XFER_RDY"; flags that are not named are zero, and so is TLR CONTROL (request K8: "the ports write 0")
+-- "Under SAS-2 the caller gives a value .., and every read DATA and RESPONSE of the command carries it" (request K7; under SAS-1.1 it is zero: transfer specs/Limits);
+-- "write DATA carries the TPTT of its burst's XFER_RDY"; flags that are not named are zero, and so is TLR CONTROL (request K8: "the ports write 0")
 unfoldable pub dataHeader : Sender → Header
 dataHeader s =
     record {
@@ -29,7 +30,7 @@ dataHeader s =
       source = s .transfer .local;
       flags = record { tlr = 0; retry = false; retransmit = false; cdp = s .cdp };
       tag = s .transfer .tag;
-      tptt = pick (s .transfer .write) (s .burst .tptt) 0;
+      tptt = pick (s .transfer .write) (s .burst .tptt) (s .transfer .value);
       offset = s .next;
     }
 

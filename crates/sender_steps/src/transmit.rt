@@ -34,13 +34,13 @@ fn data_length(s: Sender) -> u32
     if t.size <= left { t.size } else { left }
 }
 
-// A write burst's transfer tag; read DATA has zero.
+// A write burst's transfer tag; read DATA has the transfer's value.
 fn tptt(s: Sender) -> u16
     ensures { λ r. ⌜ r ≡ dataHeader s .tptt ⌝ }
 {
     let t = s.transfer;
     let b = s.burst;
-    if t.write { b.tptt } else { 0 }
+    if t.write { b.tptt } else { t.value }
 }
 
 fn header(s: Sender) -> Header
@@ -76,8 +76,8 @@ fn sent(mut s: Sender, n: u32) -> Sender
     s
 }
 
-// A frame is due: it goes out, or the writer refuses it.
-fn transmit(s: Sender, buffer: &[u8], out: &mut [u8]) -> Stepped
+// A frame is due: it goes out, or the writer refuses it. s changes in place, which saves a copy of the record (docs/SPEED.md).
+fn transmit(mut s: Sender, buffer: &[u8], out: &mut [u8]) -> Stepped
     requires { ⌜ (fitsOf s (length (now buffer)) ≡ true) × (waitsOf s ≡ false) ⌝ }
     ensures { λ r. ⌜ (stepped r ≡ writesOf s (now (buffer .entry)) (now (out .entry))) × (now (out .exit) ≡ handing (writesOf s (now (buffer .entry)) (now (out .entry)) .says) (frameOf s (now (buffer .entry))) (now (out .entry))) ⌝ }
 {
@@ -86,10 +86,13 @@ fn transmit(s: Sender, buffer: &[u8], out: &mut [u8]) -> Stepped
     let to = from + (n as usize);
     let written = frame::write(header(s), &buffer[from..to], out);
     match written {
-        Written::Frame(length) => Stepped {
-            sender: sent(s, n),
-            answer: Answer::Frame(length),
-        },
+        Written::Frame(length) => {
+            s = sent(s, n);
+            Stepped {
+                sender: s,
+                answer: Answer::Frame(length),
+            }
+        }
         Written::Refused(why) => record::refused(s, why),
     }
 }
@@ -104,17 +107,20 @@ fn fits(s: Sender, n: usize) -> bool
 }
 
 // A frame asked for: 1 where next offset, burst or frame count do not fit; wait; the writer's 1 or 3, else a frame of that length.
+// One exit: with early returns the compiler does not build the step into its callers (docs/SPEED.md).
 pub fn frame_step(s: Sender, buffer: &[u8], out: &mut [u8]) -> Stepped
     ensures { λ r. ⌜ (stepped r ≡ frameStepOf s (now (buffer .entry)) (now (out .entry))) × (now (out .exit) ≡ handing (frameStepOf s (now (buffer .entry)) (now (out .entry)) .says) (frameOf s (now (buffer .entry))) (now (out .entry))) ⌝ }
 {
     if !fits(s, buffer.len()) {
-        return record::refused(s, Refusal::BadRequest);
+        record::refused(s, Refusal::BadRequest)
+    } else {
+        if waits(s) {
+            Stepped {
+                sender: s,
+                answer: Answer::Wait,
+            }
+        } else {
+            transmit(s, buffer, out)
+        }
     }
-    if waits(s) {
-        return Stepped {
-            sender: s,
-            answer: Answer::Wait,
-        };
-    }
-    transmit(s, buffer, out)
 }

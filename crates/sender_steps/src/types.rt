@@ -9,7 +9,7 @@ pub struct Burst {
     pub end: u32,
     // the retry limit in force
     pub limit: u32,
-    // the target port transfer tag of the XFER_RDY; read DATA has zero whatever stands here
+    // the target port transfer tag of the XFER_RDY; read DATA has the transfer's value whatever stands here
     pub tptt: u16,
 }
 
@@ -27,9 +27,9 @@ pub struct Sender {
     // the next frame has CHANGING DATA POINTER one
     pub cdp: bool,
     pub ended: bool,
+    pub retries: u32,
     // frames handed out since set-up, or since the write burst began
     pub frames: u64,
-    pub retries: u32,
 }
 
 // What a step or an event leaves and answers. A refusal leaves the record as it was.

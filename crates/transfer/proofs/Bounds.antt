@@ -1,11 +1,12 @@
 -- What a transfer within the limits gives, all bounds at once.
 use Prim.Native.Nat.{ℕ, _%_, _^_, _≤_, _<_}
-use mathlib.Core.Bool.{true}
-use mathlib.Core.Path.{_≡_}
+use mathlib.Core.Bool.{Bool, true, _||_}
+use mathlib.Core.Path.{_≡_, sym, ap, _∙_}
 use native.Mathlib.Omega.{arith}
+use lib.Dec.{eqb}
 use borrow.Author.Tests.{leb-true, eqb-true}
 use Rattle.status.proofs.Choose.{each}
-use Rattle.transfer.specs.Limits.{limits, limitsHold}
+use Rattle.transfer.specs.Limits.{limits, limitsHold, ZeroBefore}
 use Rattle.transfer.specs.declared.Transfer.{Transfer}
 
 pub record Bounds (t : Transfer) : Type 0 where
@@ -25,3 +26,11 @@ pub record Bounds (t : Transfer) : Type 0 where
 pub bounds : (t : Transfer) → limitsHold t ≡ true → Bounds t
 unfolding limitsHold limits
 bounds t e = let h = each (limits t) e in omega (arith, leb-true, eqb-true)
+
+-- under SAS-1.1 the value is zero
+pub zero-before : ZeroBefore
+unfolding limitsHold limits
+zero-before t e f =
+    let h = each (limits t) e in
+    let z = ap (λ (b : Bool). b || eqb (t .value) 0) (sym f) ∙ h .1 .1 .1 .1 .1 .1 .1 .1 .1 .1 .1 .1 .0 in
+    omega (arith, leb-true, eqb-true)

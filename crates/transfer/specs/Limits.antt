@@ -1,8 +1,10 @@
 -- "Limits of a transfer": "byte count 1 to 16,777,216. Data per frame a multiple of four, 4 to 1,024. Unanswered frames (the window) 1 to 64.
 -- Retry limit 0 to 15 .. Write burst 1 to the byte count"; and "a hashed address passes 24 bits" is 1 too.
+-- Request K7: "Under SAS-2 the caller gives a value of 0 to 65,535"; "a nonzero value under SAS-1.1 is 1".
 use Prim.Native.Nat.{_%_, _^_, _-_}
-use mathlib.Core.Bool.{Bool}
+use mathlib.Core.Bool.{Bool, true, false, _||_}
 use mathlib.Core.List.{List, [], _∷_}
+use mathlib.Core.Path.{_≡_}
 use lib.Dec.{leb, eqb}
 use Rattle.status.specs.Pick.{all}
 use Rattle.status.specs.Number.{refusalNumber}
@@ -18,7 +20,8 @@ limits t =
     leb 1 (t .window) ∷ leb (t .window) 64 ∷
     leb (t .limit) 15 ∷
     leb 1 (t .burst) ∷ leb (t .burst) (t .count) ∷
-    leb (t .local) (2 ^ 24 - 1) ∷ leb (t .remote) (2 ^ 24 - 1) ∷ []
+    leb (t .local) (2 ^ 24 - 1) ∷ leb (t .remote) (2 ^ 24 - 1) ∷
+    (t .sas2 || eqb (t .value) 0) ∷ []
 
 unfoldable pub limitsHold : Transfer → Bool
 limitsHold t = all (limits t)
@@ -31,3 +34,7 @@ made (Refused why) = Result.number (refusalNumber why)
 -- a transfer outside the limits is 1
 abbrev pub madeOf : Transfer → Result Transfer
 madeOf t = granted (limitsHold t) t
+
+-- "Under SAS-1.1 frames are as today": the value is zero. Proved in proofs/Bounds.antt
+abbrev pub ZeroBefore : Type 0
+ZeroBefore = (t : Transfer) → limitsHold t ≡ true → t .sas2 ≡ false → t .value ≡ 0

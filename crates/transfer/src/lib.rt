@@ -21,6 +21,10 @@ pub struct Transfer {
     pub tag: u16,
     // a write command; else a read
     pub write: bool,
+    // the edition: SAS-2; else SAS-1.1
+    pub sas2: bool,
+    // the TPTT of every read DATA and RESPONSE of the command; 0 under SAS-1.1
+    pub value: u16,
 }
 
 pub enum Made {
@@ -65,6 +69,7 @@ impl Transfer {
             & (self.burst <= self.count)
             & (self.local <= Transfer::ADDRESS_MOST)
             & (self.remote <= Transfer::ADDRESS_MOST)
+            & (self.sas2 | (self.value == 0))
     }
 
     // 1, else a transfer within the limits. A read is one burst and does not use `burst`, which keeps its limits all the same.
@@ -78,8 +83,10 @@ impl Transfer {
         local: u32,
         remote: u32,
         tag: u16,
+        sas2: bool,
+        value: u16,
     ) -> Made
-        ensures { λ r. ⌜ made r ≡ madeOf (record { write = write; count = count; size = size; window = window; limit = limit; burst = burst; local = local; remote = remote; tag = tag }) ⌝ }
+        ensures { λ r. ⌜ made r ≡ madeOf (record { write = write; count = count; size = size; window = window; limit = limit; burst = burst; local = local; remote = remote; tag = tag; sas2 = sas2; value = value }) ⌝ }
     {
         let t = Transfer {
             write: write,
@@ -91,6 +98,8 @@ impl Transfer {
             local: local,
             remote: remote,
             tag: tag,
+            sas2: sas2,
+            value: value,
         };
         if t.limits_hold() {
             Made::Taken(t)

@@ -3,7 +3,7 @@ use mathlib.Core.Logic.{inl, inr}
 use mathlib.Core.Path.{refl}
 use native.Mathlib.Omega.{arith}
 use Rattle.link.specs.World.{Allowed}
-use Rattle.link.specs.Claim.{Starts}
+use Rattle.link.specs.Claim.{sas11, Starts}
 use Rattle.link.specs.Reading.{readPorts}
 use Rattle.worked.specs.Setting.{target, host}
 use Rattle.worked.specs.Run.{burst}
@@ -11,7 +11,7 @@ use Rattle.worked.specs.Faults.{eightStart, nakLostEvents, NakLost, atRe
 use Rattle.worked.proofs.ReadComputes.{computed}
 use Rattle.worked.proofs.Run.{given, alike, _then_, worked}
 
-eight-starts : Starts readPorts (burst 0 8 1) eightStart
+eight-starts : Starts readPorts sas11 (burst 0 8 1) eightStart
 unfolding computed eightStart
 eight-starts = Starts.read (target 8 2 1) (host 8 2 1) _ _ _ _ refl refl alike (omega arith) refl refl
 

@@ -3,6 +3,7 @@ pub mod WriteComputes
 pub mod Run
 pub mod Read
 pub mod Faults
+pub mod Pairing
 pub mod Write
 pub mod Crossing
 pub mod Repeat

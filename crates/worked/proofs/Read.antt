@@ -3,7 +3,7 @@ use mathlib.Core.Logic.{inl, inr}
 use mathlib.Core.Path.{refl}
 use native.Mathlib.Omega.{arith}
 use Rattle.link.specs.World.{Allowed}
-use Rattle.link.specs.Claim.{Starts}
+use Rattle.link.specs.Claim.{sas11, Starts}
 use Rattle.link.specs.Reading.{readPorts}
 use Rattle.worked.specs.Setting.{target, host}
 use Rattle.worked.specs.Run.{burst}
@@ -11,11 +11,11 @@ use Rattle.worked.specs.Read.{tenStart, tenTransfer, tenLate, tenEvents,
 use Rattle.worked.proofs.ReadComputes.{computed}
 use Rattle.worked.proofs.Run.{given, alike, _then_, worked}
 
-ten-starts : Starts readPorts (burst 0 10 5) tenStart
+ten-starts : Starts readPorts sas11 (burst 0 10 5) tenStart
 unfolding computed tenStart
 ten-starts = Starts.read (target 10 3 5) (host 10 3 5) _ _ _ _ refl refl alike (omega arith) refl refl
 
-six-starts : Starts readPorts (burst 0 6 1) sixStart
+six-starts : Starts readPorts sas11 (burst 0 6 1) sixStart
 unfolding computed sixStart
 six-starts = Starts.read (target 6 2 1) (host 6 2 1) _ _ _ _ refl refl alike (omega arith) refl refl
 

@@ -6,7 +6,7 @@ use lib.ListN.{replicate}
 use Rattle.initiator.specs.WriteRecord as initiator
 use Rattle.target.specs.Record as target
 use Rattle.link.specs.World.{Allowed}
-use Rattle.link.specs.Claim.{Starts}
+use Rattle.link.specs.Claim.{sas11, Starts}
 use Rattle.link.specs.Writing.{writePorts}
 use Rattle.worked.specs.Setting.{ten}
 use Rattle.worked.specs.Run.{burst}
@@ -14,7 +14,7 @@ use Rattle.worked.specs.Write.{host, device, ready, half, firstStart, fi
 use Rattle.worked.proofs.WriteComputes.{computed-write}
 use Rattle.worked.proofs.Run.{given, alike, _then_, worked}
 
-first-starts : Starts writePorts (burst 0 5 3) firstStart
+first-starts : Starts writePorts sas11 (burst 0 5 3) firstStart
 unfolding computed-write firstStart
 first-starts = Starts.write (initiator.startOf host) (target.startOf device) ready ten (replicate 10 0xff) 36 refl refl refl alike (omega arith) refl refl refl refl refl
 
@@ -26,7 +26,7 @@ first-delivered : FirstDelivered
 unfolding computed-write firstStart firstEvents
 first-delivered = worked first-starts first-allowed refl refl refl refl refl (inl (given {n = 2} (inl refl)))
 
-second-starts : Starts writePorts (burst 5 10 3) secondStart
+second-starts : Starts writePorts sas11 (burst 5 10 3) secondStart
 unfolding computed-write secondStart
 second-starts = Starts.write sentFirst filledFirst ready ten half 36 refl refl refl alike (omega arith) refl refl refl refl refl
 
@@ -75,7 +75,7 @@ command =
       second-tags = refl;
     }
 
-resent-starts : Starts writePorts (burst 5 10 3) resentStart
+resent-starts : Starts writePorts sas11 (burst 5 10 3) resentStart
 unfolding computed-write resentStart
 resent-starts = Starts.write sentFirst unheard ready ten half 36 refl refl refl alike (omega arith) refl refl refl refl refl
 

@@ -2,6 +2,7 @@ pub mod Setting
 pub mod Run
 pub mod Read
 pub mod Faults
+pub mod Pairing
 pub mod Write
 pub mod Crossing
 pub mod Repeat

@@ -7,7 +7,7 @@ use Rattle.frame.specs.Format.{field}
 use Rattle.link.specs.Ports.{Ports}
 use Rattle.link.specs.World.{World, Report, Event, run, Allowed}
 use Rattle.link.specs.Delivers.{BurstParameters, Concluded, Delivers}
-use Rattle.link.specs.Claim.{Starts}
+use Rattle.link.specs.Claim.{Editions, Starts}
 
 -- a burst with four bytes per frame: base, end, retry limit
 abbrev pub burst : ℕ → ℕ → ℕ → BurstParameters
@@ -21,7 +21,8 @@ pointers (f ∷ fs) = (field f 20 4, getD f 10 0) ∷ pointers fs
 -- the list of events es from a start: it is allowed, what stands at its end, and the claim there
 pub record Worked {P : Ports} (b : BurstParameters) (start : World P) (es : List (Event P)) (report : Report) (received : List ℕ) (faults count : ℕ) (handed : List (ℕ × ℕ)) : Type 1 where
   -- the claim's premises
-  pub starts : Starts P b start
+  pub editions : Editions
+  pub starts : Starts P editions b start
   pub allowed : Allowed start es
   -- what the sending port has reported, the receiving port's buffer, the faults, the history of frames and its length
   pub reports : run start es .report ≡ report

@@ -14,9 +14,20 @@ pub struct Part {
 const _: () = assert!(size_of::<Answer>() == 40 && offset_of!(Answer, kind) == 2 && offset_of!(Answer, status) == 3);
 const _: () = assert!(offset_of!(Answer, frames) == 8 && offset_of!(Answer, len) == 24 && offset_of!(Answer, sense) == 32);
 const _: () = assert!(size_of::<Part>() == 16 && offset_of!(Part, len) == 8);
+// The records that K7 moved.
+const _: () = assert!(size_of::<Transfer>() == 36 && offset_of!(Transfer, write) == 30);
+const _: () = assert!(offset_of!(Transfer, sas2) == 31 && offset_of!(Transfer, value) == 32);
+const _: () = assert!(size_of::<Sender>() == 80 && offset_of!(Sender, burst) == 36 && offset_of!(Sender, next) == 52);
+const _: () = assert!(offset_of!(Sender, nak) == 64 && offset_of!(Sender, retries) == 68 && offset_of!(Sender, frames) == 72);
+const _: () = assert!(size_of::<Receiver>() == 56 && offset_of!(Receiver, base) == 36 && offset_of!(Receiver, ended) == 53);
+const _: () = assert!(size_of::<Writer>() == 104 && offset_of!(Writer, reached) == 80 && offset_of!(Writer, taken) == 88);
+const _: () = assert!(size_of::<Target>() == 68 && offset_of!(Target, retries) == 56 && offset_of!(Target, stored) == 67);
+const _: () = assert!(size_of::<Responder>() == 48 && offset_of!(Responder, len) == 36 && offset_of!(Responder, ended) == 45);
 
 #[rustfmt::skip]
 extern "C" {
+    pub fn ssp_interface_2() -> u32;
+
     pub fn ssp_read_target_set_up(s: *mut Sender, t: Transfer) -> Answer;
     pub fn ssp_read_target_next_frame(s: *mut Sender, data: *const u8, data_len: usize, out: *mut u8, out_len: usize) -> Answer;
     pub fn ssp_read_target_ack_received(s: *mut Sender) -> Answer;

@@ -63,6 +63,9 @@ pub struct Transfer {
     pub remote: u32,
     pub tag: u16,
     pub write: bool,
+    /// K7: the edition, SAS-1.1 or SAS-2, and the value that the caller gives.
+    pub sas2: bool,
+    pub value: u16,
 }
 
 #[repr(C)]
@@ -85,8 +88,8 @@ pub struct Sender {
     pub nak: bool,
     pub cdp: bool,
     pub ended: bool,
-    pub frames: u64,
     pub retries: u32,
+    pub frames: u64,
 }
 
 #[repr(C)]
@@ -164,7 +167,7 @@ pub const STATE_AGAIN: u8 = 2;
 pub const STATE_READY: u8 = 3;
 
 impl Transfer {
-    /// "Limits of a transfer", and hashed addresses of 24 bits.
+    /// "Limits of a transfer", and hashed addresses of 24 bits. K7: "a nonzero value under SAS-1.1 is 1".
     pub fn fits(&self) -> bool {
         (1..=16_777_216).contains(&self.count)
             && (4..=1024).contains(&self.size)
@@ -175,6 +178,15 @@ impl Transfer {
             && self.burst <= self.count
             && self.local < 1 << 24
             && self.remote < 1 << 24
+            && (self.sas2 || self.value == 0)
+    }
+    /// K7: the TPTT of read DATA and RESPONSE.
+    pub fn carried(&self) -> u16 {
+        if self.sas2 {
+            self.value
+        } else {
+            0
+        }
     }
 }
 

@@ -35,6 +35,7 @@ pub fn next_frame(r: &mut Responder, iu: &[u8], out: &mut [u8]) -> Answer {
             // "It is resent likewise": RETRANSMIT one.
             retransmit: r.retries > 0,
             tag: r.transfer.tag,
+            tptt: r.transfer.carried(),
             ..Header::default()
         };
         let answer = frame::write(&header, iu, out);

@@ -31,7 +31,7 @@ pub fn next_frame(s: &mut Sender, data: &[u8], out: &mut [u8]) -> Answer {
         source: s.transfer.local,
         cdp: s.cdp,
         tag: s.transfer.tag,
-        tptt: if s.transfer.write { s.burst.tptt } else { 0 },
+        tptt: if s.transfer.write { s.burst.tptt } else { s.transfer.carried() },
         offset: s.next,
         ..Default::default()
     };

@@ -26,9 +26,9 @@ returns-3 c =
 returns-4 : tie.Need-returns-4
 unfolding screenOf
 returns-4 c =
-    let d = c .before .before .before in
-    let b = d .before .before .before .before .before in
-    rw (← b .before .is-taken .ensures) (in-false _ _ _ _ (b .if1 .left) (in-false _ _ _ _ (d .if2 .left) (in-false _ _ _ _ (rw (eq-eqb _ _ (c .if3 .left)) refl) refl)))
+    let e = c .before .before .before in
+    let b = e .before .before .before .before .before in
+    rw (← b .before .is-taken .ensures) (in-false _ _ _ _ (b .if1 .left) (in-false _ _ _ _ (e .if2 .left) (in-false _ _ _ _ (rw (eq-eqb _ _ (c .if3 .left)) refl) refl)))
 
 pub screen-spec : {M : Type 1} → statement M
 screen-spec = tie.close (tie.spec (λ c κs. search needs) returns returns-2 returns-3 returns-4)

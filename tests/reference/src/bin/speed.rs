@@ -180,6 +180,8 @@ fn read(count: usize, size: usize) -> Transfer {
         remote: 0xab_cdef,
         tag: 0x12,
         write: false,
+        sas2: false,
+        value: 0,
     }
 }
 

@@ -1,9 +1,12 @@
 //! Made-up records and bytes, with fields near and at their limits.
+use super::editions;
 use super::pair::Rec;
 use super::rng::Rng;
 use crate::records::*;
 
 pub fn transfer(g: &mut Rng, write: bool) -> Transfer {
+    // K7: from a generator of its own, so that the other numbers stay those of the seed.
+    let (sas2, value) = editions::any(&mut Rng(!g.0 ^ 7));
     let count = if g.one_in(12) { g.of(&[1, 16_777_215, 16_777_216]) } else { 1 + g.up_to(60) };
     let mut t = Transfer {
         write: write ^ g.one_in(60),
@@ -15,6 +18,8 @@ pub fn transfer(g: &mut Rng, write: bool) -> Transfer {
         local: if g.one_in(10) { 0xff_ffff } else { 0x12_3456 },
         remote: if g.one_in(10) { 0 } else { 0xab_cdef },
         tag: g.of(&[0, 0x12, 0xffff]),
+        sas2,
+        value,
     };
     if g.one_in(12) {
         match g.below(8) {

@@ -1,5 +1,10 @@
 //! What compares the library with the reference.
 pub mod bursts;
+pub mod editions;
+mod editions_ports;
+mod editions_runs;
+mod editions_values;
+mod editions_vectors;
 mod forged;
 pub mod headers;
 pub mod ladders;

@@ -225,7 +225,7 @@ impl At {
 /// Records that number 1 shuts out, each by one field.
 fn broken() -> Result<Vec<At>, String> {
     let mut all = Vec::new();
-    let transfers: [fn(&mut Transfer); 8] = [
+    let transfers: [fn(&mut Transfer); 9] = [
         |t| t.write = !t.write,
         |t| t.size = 6,
         |t| t.window = 65,
@@ -234,6 +234,7 @@ fn broken() -> Result<Vec<At>, String> {
         |t| t.burst = 13,
         |t| t.local = 1 << 24,
         |t| t.remote = 1 << 24,
+        |t| t.value = 1,
     ];
     let receivers: [fn(&mut Receiver); 4] = [|r| r.base = 5, |r| r.expected = 5, |r| r.filled = 13, |r| r.end = 13];
     let senders: [fn(&mut Writer); 12] = [

@@ -111,9 +111,9 @@ fn records(g: &mut Rng) -> Result<u64, String> {
 
 /// A run; before each event RESPONSEs at copies of the initiator's record.
 fn run(seed: u64) -> Result<u64, String> {
-    let (t, list) = world::from_seed(seed);
-    let (g, mut w) = (&mut Rng(!seed), World::new(t)?);
-    let here = if t.write { t } else { Transfer { local: t.remote, remote: t.local, ..t } };
+    let (ends, list) = world::from_seed(seed);
+    let (g, mut w, t) = (&mut Rng(!seed), World::new(ends)?, ends[0]);
+    let here = ends[usize::from(!t.write)];
     let mut n = 0;
     for (i, event) in list.iter().enumerate() {
         let at = i + 1;

@@ -1,4 +1,5 @@
 //! Single calls of every entry point, with made-up records and any bytes.
+use super::editions;
 use super::forged::near;
 use super::made_up;
 use super::pair::{Call, Pair, Rec};
@@ -80,6 +81,14 @@ pub fn bytes(g: &mut Rng, rec: &Rec) -> Vec<u8> {
     };
     // From a generator of its own, so that the other numbers stay those of the seed.
     let tlr = Rng(!g.0).up_to(3) as u8;
+    // K7, likewise: any TPTT where none counts, and now and then the value as a write's tag.
+    let own = &mut Rng(!g.0 ^ 7);
+    let tptt = match rec {
+        Rec::Receiver(_) => editions::tptt(own, t.value),
+        _ if kind == 7 => editions::tptt(own, t.value),
+        Rec::Target(_) if own.one_in(16) => t.value,
+        _ => tptt,
+    };
     let h = Header {
         kind: if g.one_in(20) { g.of(&[6, 0x16]) } else { kind },
         dest: (if g.one_in(20) { t.remote } else { t.local }) & 0xff_ffff,

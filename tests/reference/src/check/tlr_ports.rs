@@ -23,7 +23,7 @@ fn after(mut s: Script, frames: &[(Vec<u8>, u8)]) -> Result<Script, String> {
     Ok(s)
 }
 
-fn read_receivers() -> Result<Vec<Script>, String> {
+pub(super) fn read_receivers() -> Result<Vec<Script>, String> {
     let new = |name| read_receiver(name, 12, 1);
     let response = bytes(7, 0, 0, 0, &[0; 24]);
     Ok(vec![
@@ -37,7 +37,7 @@ fn read_receivers() -> Result<Vec<Script>, String> {
     ])
 }
 
-fn writers() -> Result<Vec<Script>, String> {
+pub(super) fn writers() -> Result<Vec<Script>, String> {
     // Twelve bytes, window 2, limit 1; a burst from 0, some of it out.
     let out = |name, len, at: &[u32]| -> Result<Script, String> {
         let mut s = asked(name, 12, 2, 1, len)?;
@@ -108,7 +108,7 @@ pub(super) fn read_senders() -> Result<Vec<Script>, String> {
 }
 
 /// Frames of all kinds, byte 10 zero: well placed for one record or another, misplaced, malformed.
-fn frames() -> Vec<Vec<u8>> {
+pub(super) fn frames() -> Vec<Vec<u8>> {
     let mut all = Vec::new();
     for tptt in [0, 1, 2] {
         for offset in [0, 2, 4, 8, 12, u32::MAX] {
@@ -217,7 +217,7 @@ fn beside(seed: u64, out: &mut Out) -> Result<u64, String> {
             if f[10] & 0xf8 != 0 {
                 return Err(format!("event {at}: handed out at both sides with byte 10 {:02x}", f[10]));
             }
-            out.insert((t.write, f[0], f[10]));
+            out.insert((t[0].write, f[0], f[10]));
             g[10] = f[10] | HIGH[1 + (i + k) % 3];
         }
     }

@@ -1,4 +1,5 @@
 //! Lists of events for small transfers: every list up to a length, each by itself; and longer ones, up to any length.
+use super::editions::EDGES;
 use super::pair::{Pair, Rec};
 use super::world::*;
 use crate::records::Transfer;
@@ -10,15 +11,20 @@ const RESPONSE_LINK: [Event; 6] =
 /// At the sending end, the receiving end, the RESPONSE's record.
 const LOSSES: [Event; 3] = [Event::Loss(0), Event::Loss(1), Event::Loss(2)];
 
-/// Reads and writes of 1 to 3 frames, windows 1 to 3, limits 0 to 2; a write in one burst and in bursts of one frame.
-fn transfers() -> Vec<Transfer> {
+/// Reads and writes of 1 to 3 frames, windows 1 to 3, limits 0 to 2; a write in one burst and in bursts of one frame. K7: the four pairings of
+/// editions in turn, with values at the edges.
+fn transfers() -> Vec<Ends> {
     let mut all = Vec::new();
     for write in [false, true] {
         for k in 0..27 {
             let (frames, window, limit) = (k / 9 + 1, k / 3 % 3 + 1, k % 3);
             let count = frames * 4 - u32::from(frames == 2);
             for burst in if write && frames > 1 { vec![4, count] } else { vec![count] } {
-                all.push(Transfer { write, count, size: 4, window, limit, burst, local: 1, remote: 2, tag: 3 });
+                let n = all.len();
+                let edition = |sas2, n: usize| (sas2, if sas2 { EDGES[n % EDGES.len()] } else { 0 });
+                let (sas2, value) = edition(n & 1 != 0, n / 4 + 1);
+                let t = Transfer { write, count, size: 4, window, limit, burst, local: 1, remote: 2, tag: 3, sas2, value };
+                all.push(ends(t, edition(n & 2 != 0, n / 4 + 4)));
             }
         }
     }
@@ -125,10 +131,10 @@ fn key(w: &World) -> Vec<u8> {
 /// The walks of one part.
 #[derive(Default)]
 struct Walk {
-    t: Transfer,
+    t: Ends,
     calls: u64,
     /// The shortest list after which the two sides differ.
-    found: Option<(Transfer, Vec<Event>)>,
+    found: Option<(Ends, Vec<Event>)>,
     /// How many states to keep; None: all.
     states: Option<usize>,
 }
@@ -153,7 +159,7 @@ impl Walk {
     }
 
     /// The world after these events; None where the sides differ on the way.
-    fn start(&mut self, t: Transfer, events: &[Event]) -> Option<World> {
+    fn start(&mut self, t: Ends, events: &[Event]) -> Option<World> {
         self.t = t;
         let Ok(mut w) = World::new(t) else {
             if self.wants(0) {
@@ -233,7 +239,8 @@ impl Walk {
 pub fn each(depth: usize) -> Result<u64, String> {
     let mut walk = Walk::default();
     let less = |n| depth.saturating_sub(n);
-    for t in transfers() {
+    for ends in transfers() {
+        let t = ends[0];
         let link = less(usize::from(t.write));
         let mut plan = vec![(vec![], link_events(&t), link), (vec![], all_events(&t), less(3))];
         if t.write {
@@ -244,7 +251,7 @@ pub fn each(depth: usize) -> Result<u64, String> {
             plan.push((vec![], [&RESPONSE_LINK[..], &LOSSES[2..]].concat(), less(1)));
         }
         for (mut list, events, depth) in plan {
-            if let Some(w) = walk.start(t, &list) {
+            if let Some(w) = walk.start(ends, &list) {
                 walk.each(&w, &mut list, &events, depth);
             }
         }
@@ -256,7 +263,8 @@ pub fn each(depth: usize) -> Result<u64, String> {
 /// a limit, and all events, two more than `depth`, from set-up and from commands under way.
 pub fn longer(depth: usize) -> Result<u64, String> {
     let mut walk = Walk::default();
-    for t in transfers() {
+    for ends in transfers() {
+        let t = ends[0];
         // A window wider than the burst is never full: one as wide as the burst does the same.
         if (t.window - 1) * t.size >= t.burst {
             continue;
@@ -269,7 +277,7 @@ pub fn longer(depth: usize) -> Result<u64, String> {
             plan.extend(starts(&t).into_iter().map(|s| (s, all_events(&t), Some(depth + 2))));
         }
         for (start, events, limit) in plan {
-            if let Some(w) = walk.start(t, &start) {
+            if let Some(w) = walk.start(ends, &start) {
                 walk.longer(w, &start, &events, limit);
             }
         }
@@ -279,9 +287,9 @@ pub fn longer(depth: usize) -> Result<u64, String> {
 
 /// The list of a run, made short: events are dropped while the difference stays; then shorter lists of the same events and of the link's
 /// are tried, the shortest first, until 100,000 states are known.
-pub fn of_run(what: &str, t: Transfer, list: &[Event]) -> String {
+pub fn of_run(what: &str, t: Ends, list: &[Event]) -> String {
     let (list, _) = shortest(t, list);
-    let mut events = link_events(&t);
+    let mut events = link_events(&t[0]);
     list.iter().for_each(|e| {
         if !events.contains(e) {
             events.push(*e)

@@ -1,4 +1,5 @@
 //! Both ends of one command over a link with faults, library and reference side by side.
+use super::editions;
 use super::forged::{forged, repeat};
 use super::pair::{Call, Pair, Rec};
 use super::rng::Rng;
@@ -60,6 +61,14 @@ pub(super) struct Way {
     pub(super) answers: VecDeque<bool>,
 }
 
+/// What the sending and the receiving end are set up with. K7: each has an edition and a value of its own.
+pub type Ends = [Transfer; 2];
+
+/// The other end of `t`, with its edition and value.
+pub fn ends(t: Transfer, (sas2, value): (bool, u16)) -> Ends {
+    [t, Transfer { local: t.remote, remote: t.local, sas2, value, ..t }]
+}
+
 #[derive(Clone)]
 pub struct World {
     pub(super) sender: Pair,
@@ -83,8 +92,7 @@ fn response_iu() -> Vec<u8> {
 }
 
 impl World {
-    pub fn new(t: Transfer) -> Result<World, String> {
-        let other = Transfer { local: t.remote, remote: t.local, ..t };
+    pub fn new([t, other]: Ends) -> Result<World, String> {
         let n = t.count as usize;
         let bytes: Vec<u8> = (0..n).map(|i| (i * 7 + 1) as u8).collect();
         let (s, r) = if t.write {
@@ -271,9 +279,12 @@ impl World {
     }
 }
 
-/// The run of one seed: its transfer and its events.
-pub fn from_seed(seed: u64) -> (Transfer, Vec<Event>) {
+/// The run of one seed: its two ends and its events.
+pub fn from_seed(seed: u64) -> (Ends, Vec<Event>) {
     let g = &mut Rng(seed);
+    // K7: from a generator of its own, so that the other numbers stay those of the seed.
+    let own = &mut Rng(!seed ^ 7);
+    let ((sas2, value), far) = (editions::drawn(own), editions::drawn(own));
     let write = g.below(3) > 0;
     let count = if g.one_in(40) { 2000 } else { 1 + g.up_to(47) };
     let t = Transfer {
@@ -286,6 +297,8 @@ pub fn from_seed(seed: u64) -> (Transfer, Vec<Event>) {
         local: 0x12_3456,
         remote: 0xab_cdef,
         tag: 0x12,
+        sas2,
+        value,
     };
     let faults = g.of(&[4, 12, 40, 200]);
     let wild = g.of(&[10, 60, 2000]);
@@ -313,11 +326,11 @@ pub fn from_seed(seed: u64) -> (Transfer, Vec<Event>) {
             g.of(&[LINK[0], LINK[0], LINK[1], LINK[1], LINK[4], LINK[4]])
         });
     }
-    (t, list)
+    (ends(t, far), list)
 }
 
 /// Runs a list; at a difference, how many events it took and what differs.
-pub fn run(t: Transfer, list: &[Event]) -> Result<u64, (usize, String)> {
+pub fn run(t: Ends, list: &[Event]) -> Result<u64, (usize, String)> {
     let mut w = World::new(t).map_err(|e| (0, e))?;
     let mut after = 0;
     for (i, e) in list.iter().enumerate() {
@@ -332,7 +345,7 @@ pub fn run(t: Transfer, list: &[Event]) -> Result<u64, (usize, String)> {
 }
 
 /// Drops events while the difference stays.
-pub fn shortest(t: Transfer, list: &[Event]) -> (Vec<Event>, String) {
+pub fn shortest(t: Ends, list: &[Event]) -> (Vec<Event>, String) {
     let mut list = list.to_vec();
     let mut text = String::new();
     loop {
@@ -359,7 +372,7 @@ pub fn shortest(t: Transfer, list: &[Event]) -> (Vec<Event>, String) {
     }
 }
 
-pub fn report(what: &str, t: Transfer, list: &[Event]) -> String {
+pub fn report(what: &str, t: Ends, list: &[Event]) -> String {
     let (short, text) = shortest(t, list);
     format!("{what}: {t:?}\n  events ({}): {short:?}\n  at {text}", short.len())
 }

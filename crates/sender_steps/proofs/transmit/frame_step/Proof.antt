@@ -36,4 +36,4 @@ returns-3 c =
     rw (f, w) (c .before .before .transmit .ensures)
 
 pub frame-step-spec : {M : Type 1} → statement M
-frame-step-spec = tie.close (tie.spec (λ c κs. search needs) (λ c κs. search needs) returns (λ c κs. search needs) returns-2 transmit-requires (λ c. search needs) returns-3)
+frame-step-spec = tie.close (tie.spec (λ c κs. search needs) (λ c κs. search needs) (λ c κs. search needs) transmit-requires returns returns-2 (λ c. search needs) returns-3)
