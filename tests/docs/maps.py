@@ -1,5 +1,5 @@
-"""Maps and counts against the sources: README's map of crates, the laws that PROOFS names, the counts of crates, edits and C functions; and every
-edit still applies to its file, each in one folder only."""
+"""Maps and counts against the sources: README's map of crates, the laws that PROOFS names, its counts of lines (within a twentieth), the counts of
+crates, edits and C functions; and every edit still applies to its file, each in one folder only."""
 import pathlib
 import re
 import sys
@@ -48,6 +48,12 @@ for crate, text in rows("docs/PROOFS.md", 2):
             laws += 1
             if name != "pick" and name not in sources.defined(path):
                 wrong("docs/PROOFS.md", f"`{name}` is not in {path.relative_to(root)}")
+
+for what, files in [("code", "src/**/*.rt"), ("definitions", "specs/**/*.antt"), ("proofs", "proofs/**/*.antt")]:
+    lines = sum(path.read_text(encoding="utf-8").count("\n") for crate in crates for path in (root / "crates" / crate).glob(files))
+    said = re.findall(rf"([\d,]+) (?:lines )?of {what}\b", page("docs/PROOFS.md"))
+    if len(said) != 1 or abs(int(said[0].replace(",", "")) - lines) > lines / 20:
+        wrong("docs/PROOFS.md", f"there are {lines} lines of {what}")
 
 edits = sorted((root / "crates").glob("*/*/*.edit"))
 kept = sum(path.parts[-2] == "must-fail" for path in edits)
