@@ -1,4 +1,4 @@
-/* SSP transport retries: frame reader and writer, initiator and target ports, XFER_RDY retry, RESPONSE retry.
+/* SSP transport retries: frame reader and writer, initiator and target ports, XFER_RDY retry, RESPONSE retry, Initiator Response Timeout.
  *
  * For x86-64 with the System V calling convention; C99 or later, C++11 or later. Any other target stops at an #error.
  * Include this file and link with libssp.a. This file has the calls. ssp/types.h has the numbers and the records, ssp/helpers.h the inline
@@ -176,6 +176,14 @@ ssp_answer ssp_write_target_connection_lost(ssp_write_target *record);
 
 /* The I_T nexus was lost. Answers SSP_BAD_REQUEST (not in range), SSP_TRANSFER_ENDED, SSP_NEXUS_LOSS. */
 ssp_answer ssp_write_target_nexus_lost(ssp_write_target *record);
+
+/* Reports time: the milliseconds since the last report to this record, 0 to 65,535; report a longer time as 65,535, which reaches every timeout.
+ * The library has no clock. Call this at each tick of a timer, and before ack_received and frame_received: a report counts whole or not at all,
+ * by the record at the call. It counts towards receiver.transfer.irt while the record waits for DATA: from the ACK of an XFER_RDY until its burst
+ * is filled. The sum starts from 0 at that ACK and at each DATA frame stored; DATA that is discarded or refused does not restart it.
+ * Answers SSP_BAD_REQUEST (not in range), SSP_TRANSFER_ENDED; SSP_UNCHANGED (receiver.transfer.irt is 0, or the record does not wait for DATA);
+ * SSP_INITIATOR_RESPONSE_TIMEOUT (the sum is receiver.transfer.irt or more); SSP_TAKEN (`elapsed` is the sum). */
+ssp_answer ssp_write_target_time_reported(ssp_write_target *record, uint16_t milliseconds);
 
 /* A frame arrived, any bytes. DATA goes to its place in the caller-owned buffer `data`.
  * Answers SSP_BAD_REQUEST (not in range, or data_len is not receiver.transfer.count), SSP_TRANSFER_ENDED, SSP_MALFORMED_FRAME,

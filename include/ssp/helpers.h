@@ -9,7 +9,7 @@ extern "C" {
 #endif
 
 /* Defaults that ssp_read_transfer and ssp_write_transfer set. Change a field afterwards: `transfer.window = 3;`. Both ports need the same
- * size, window and retry limit. The edition is SAS-1.1; ssp_sas2 changes it. */
+ * size, window and retry limit. The edition is SAS-1.1; ssp_sas2 changes it. The Initiator Response Timeout is off: irt is 0. */
 enum ssp_default {
     SSP_DEFAULT_SIZE = 1024,    /* the most that a frame holds, so the fewest frames */
     SSP_DEFAULT_WINDOW = 8,     /* frames go out while confirmations of earlier ones are due */
@@ -31,6 +31,7 @@ static inline ssp_transfer ssp_read_transfer(uint32_t count, uint32_t local, uin
     transfer.write = false;
     transfer.sas2 = false;
     transfer.value = 0;
+    transfer.irt = 0;
     return transfer;
 }
 
@@ -86,6 +87,7 @@ static inline const char *ssp_number_name(uint8_t number) {
     case SSP_CONNECTION_LOST: return "Connection Lost";
     case SSP_NEXUS_LOSS: return "I_T Nexus Loss";
     case SSP_RESPONSE_IU_TOO_SHORT: return "RESPONSE Information Unit Too Short";
+    case SSP_INITIATOR_RESPONSE_TIMEOUT: return "Initiator Response Timeout";
     case SSP_RESPONSE_DATA_WRONG: return "RESPONSE Data Wrong";
     default: return "";
     }

@@ -44,6 +44,7 @@ SSP_AT(ssp_transfer, tag, 28);
 SSP_AT(ssp_transfer, write, 30);
 SSP_AT(ssp_transfer, sas2, 31);
 SSP_AT(ssp_transfer, value, 32);
+SSP_AT(ssp_transfer, irt, 34);
 
 SSP_SIZE(ssp_burst, 16);
 SSP_AT(ssp_burst, base, 0);
@@ -84,7 +85,7 @@ SSP_AT(ssp_write_initiator, reached, 80);
 SSP_AT(ssp_write_initiator, pending, 84);
 SSP_AT(ssp_write_initiator, taken, 88);
 
-SSP_SIZE(ssp_write_target, 68);
+SSP_SIZE(ssp_write_target, 72);
 SSP_AT(ssp_write_target, receiver, 0);
 SSP_AT(ssp_write_target, retries, 56);
 SSP_AT(ssp_write_target, tptt, 60);
@@ -92,6 +93,7 @@ SSP_AT(ssp_write_target, under, 62);
 SSP_AT(ssp_write_target, since, 64);
 SSP_AT(ssp_write_target, state, 66);
 SSP_AT(ssp_write_target, stored, 67);
+SSP_AT(ssp_write_target, elapsed, 68);
 
 SSP_SIZE(ssp_response, 48);
 SSP_AT(ssp_response, transfer, 0);

@@ -38,6 +38,7 @@ enum ssp_number {
     SSP_CONNECTION_LOST = 30,
     SSP_NEXUS_LOSS = 31,
     SSP_RESPONSE_IU_TOO_SHORT = 32,
+    SSP_INITIATOR_RESPONSE_TIMEOUT = 33,
     SSP_RESPONSE_DATA_WRONG = 34
 };
 
@@ -47,9 +48,9 @@ enum ssp_what {
     SSP_FAILED = 1,               /* [number: a failure, frames] the record has ended */
     SSP_WAIT = 2,                 /* no frame is due */
     SSP_FRAME = 3,                /* [len] `len` bytes were written to `out`; after one of the writer's two steps: len of the whole frame */
-    SSP_TAKEN = 4,                /* the event was taken: ask for frames again */
+    SSP_TAKEN = 4,                /* the event was taken: ask for frames again; after a report of time: it was counted */
     SSP_RETRY = 5,                /* a retry begins: ask for frames again */
-    SSP_UNCHANGED = 6,            /* the connection was cut with nothing unanswered */
+    SSP_UNCHANGED = 6,            /* nothing changed: a cut with nothing unanswered, or a report of time that does not count */
     SSP_DELIVERED = 7,            /* [frames] the read, the write burst or the RESPONSE is delivered; frames is 0 for a RESPONSE */
     SSP_ACKNOWLEDGED = 8,         /* the XFER_RDY was acknowledged */
     SSP_DISCARDED = 9,            /* DATA was discarded */
@@ -124,8 +125,9 @@ typedef struct ssp_part {
 } ssp_part;
 
 /* What both ports of a command are set up with. It never changes. The other port has local and remote the other way round. sas2 and value may
- * differ at the two ports: a receiving port ignores the TPTT (target port transfer tag) of read DATA and RESPONSE. "The limits" are the ranges at
- * these fields. ssp_read_transfer and ssp_write_transfer return a transfer with defaults. */
+ * differ at the two ports: a receiving port ignores the TPTT (target port transfer tag) of read DATA and RESPONSE. So may irt: every record holds
+ * it, only ssp_write_target uses it. "The limits" are the ranges at these fields. ssp_read_transfer and ssp_write_transfer return a transfer with
+ * defaults. */
 typedef struct ssp_transfer {
     uint32_t count;  /* byte count: 1 to 16,777,216 */
     uint32_t size;   /* data bytes per frame: 4 to 1,024, a multiple of four */
@@ -138,6 +140,7 @@ typedef struct ssp_transfer {
     bool write;     /* the direction: true for a write command, false for a read */
     bool sas2;      /* the edition: true for SAS-2, false for SAS-1.1 */
     uint16_t value; /* the TPTT of every read DATA frame and RESPONSE of the command; under SAS-1.1 it must be 0 */
+    uint16_t irt;   /* Initiator Response Timeout in milliseconds: 1 to 65,535; 0 turns it off; C cuts 65,536 to 0 */
 } ssp_transfer;
 
 /* What one XFER_RDY asks for, or a whole read. */
@@ -214,7 +217,7 @@ typedef struct ssp_write_initiator {
 
 /* The target in a write command.
  * In range: receiver as an ssp_read_initiator, but receiver.transfer.write is true; state is one of enum ssp_state; receiver.base is below
- * receiver.end unless state is SSP_STATE_NONE; retries <= receiver.transfer.limit; since <= 16. */
+ * receiver.end unless state is SSP_STATE_NONE; retries <= receiver.transfer.limit; since <= 16; elapsed <= receiver.transfer.irt. */
 typedef struct ssp_write_target {
     ssp_receiver receiver; /* the burst of the last XFER_RDY handed out; before the first, an empty one at 0 */
     uint32_t retries;      /* of the XFER_RDY */
@@ -223,6 +226,7 @@ typedef struct ssp_write_target {
     uint16_t since;        /* tags handed out since */
     uint8_t state;         /* of the XFER_RDY: one of enum ssp_state */
     bool stored;           /* DATA was stored, last under the tag `under` */
+    uint16_t elapsed;      /* milliseconds counted towards receiver.transfer.irt; a report that fails leaves it */
 } ssp_write_target;
 
 /* A RESPONSE at the target of a read or a write.

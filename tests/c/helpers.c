@@ -1,5 +1,5 @@
 /* The version, the inline helpers and SSP_ZERO, as C99, C11 and C++11. The words below are typed from the scope paper's "Trade words" and from
- * request K9, not from the header. Prints one line. */
+ * requests K4 and K9, not from the header. Prints one line. */
 #include <stdio.h>
 #include <string.h>
 
@@ -25,7 +25,7 @@ static void version(void) {
     TRY(SSP_VERSION == SSP_VERSION_MAJOR * 10000 + SSP_VERSION_MINOR * 100 + SSP_VERSION_PATCH);
     TRY(SSP_VERSION_MINOR < 100 && SSP_VERSION_PATCH < 100);
     TRY(ssp_version() == SSP_VERSION);
-    TRY(SSP_VERSION == 10100 && ssp_interface_2() == 2);
+    TRY(SSP_VERSION == 10200 && ssp_interface_3() == 3);
 }
 
 /* ---- names ---- */
@@ -58,6 +58,7 @@ static const named numbers[] = {
     {30, SSP_CONNECTION_LOST, "Connection Lost"},
     {31, SSP_NEXUS_LOSS, "I_T Nexus Loss"},
     {32, SSP_RESPONSE_IU_TOO_SHORT, "RESPONSE Information Unit Too Short"},
+    {33, SSP_INITIATOR_RESPONSE_TIMEOUT, "Initiator Response Timeout"},
     {34, SSP_RESPONSE_DATA_WRONG, "RESPONSE Data Wrong"},
 };
 
@@ -108,7 +109,7 @@ static int taken(ssp_transfer t) {
 static void transfers(void) {
     ssp_transfer t = ssp_read_transfer(46, 0x123456, 0xABCDEF, 0x0012);
     TRY(t.count == 46 && t.local == 0x123456 && t.remote == 0xABCDEF && t.tag == 0x0012 && !t.write);
-    TRY(t.size == 1024 && t.window == 8 && t.limit == 3 && t.burst == 46 && !t.sas2 && t.value == 0);
+    TRY(t.size == 1024 && t.window == 8 && t.limit == 3 && t.burst == 46 && !t.sas2 && t.value == 0 && t.irt == 0);
     TRY(SSP_DEFAULT_SIZE == 1024 && SSP_DEFAULT_WINDOW == 8 && SSP_DEFAULT_RETRY_LIMIT == 3);
     TRY(taken(t) == 102);
     t.burst = 0; /* what a read has to be kept from */
@@ -120,11 +121,20 @@ static void transfers(void) {
 
     t = ssp_write_transfer(24, 0x123456, 0xABCDEF, 0x0034, 12);
     TRY(t.count == 24 && t.local == 0x123456 && t.remote == 0xABCDEF && t.tag == 0x0034 && t.write);
-    TRY(t.size == 1024 && t.window == 8 && t.limit == 3 && t.burst == 12 && !t.sas2 && t.value == 0);
+    TRY(t.size == 1024 && t.window == 8 && t.limit == 3 && t.burst == 12 && !t.sas2 && t.value == 0 && t.irt == 0);
     TRY(taken(t) == 120);
     TRY(taken(ssp_write_transfer(1, 0, 0, 0, 1)) == 120);
     TRY(taken(ssp_write_transfer(SSP_COUNT_MOST, SSP_ADDRESS_MOST, SSP_ADDRESS_MOST, 0xFFFF, SSP_COUNT_MOST)) == 120);
     TRY(taken(ssp_write_transfer(24, 1, 2, 3, 0)) == 0 && taken(ssp_write_transfer(24, 1, 2, 3, 25)) == 0);
+
+    /* every Initiator Response Timeout is taken, in both directions and for the RESPONSE; ssp_sas2 leaves it */
+    t.irt = 1;
+    TRY(taken(t) == 120 && ssp_sas2(t, 7).irt == 1);
+    t.irt = 0xFFFF;
+    TRY(taken(t) == 120 && ssp_sas2(t, 0xFFFF).irt == 0xFFFF);
+    t = ssp_read_transfer(46, 0x123456, 0xABCDEF, 0x0012);
+    t.irt = 0xFFFF;
+    TRY(taken(t) == 102);
 }
 
 /* ---- the edition ---- */

@@ -2,13 +2,15 @@
  * a frame's bytes or the record that is left shows that the library reads it there. All functions are called; the writer's two steps are tried
  * apart. RESPONSEs of every kind are opened, each from bytes that stand in layout_response.h. What takes frames is tried with each TLR CONTROL
  * in them: the answers are the same. All records are tried under both editions, with several values and with several TPTTs in read DATA and
- * RESPONSEs that arrive; what only an edition changes is in layout_edition.h. Prints one line. */
+ * RESPONSEs that arrive; what only an edition changes is in layout_edition.h. All are tried with several Initiator Response Timeouts too; reports of
+ * time are in layout_time.h. Prints one line. */
 #include "layout.h"
 #include "layout_read.h"
 #include "layout_write.h"
 #include "layout_rest.h"
 #include "layout_response.h"
 #include "layout_edition.h"
+#include "layout_time.h"
 
 int main(void) {
     unsigned i;
@@ -20,6 +22,7 @@ int main(void) {
     }
     for (i = 0; i < sizeof editions / sizeof editions[0]; i++) {
         now = editions[i];
+        timed = timings[i % TIMINGS];
         transfer_fields();
         sender_fields();
         for (arriving = 0; arriving <= SSP_TLR_MOST; arriving++) {
@@ -32,9 +35,11 @@ int main(void) {
         response_opened();
     }
     now = editions[0];
+    timed = timings[0];
     header_fields();
     writer_steps();
     edition_fields();
+    time_fields();
     if (wrong > 0) {
         printf("%u of %u checks failed\n", wrong, checks);
         return 1;

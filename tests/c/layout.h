@@ -36,6 +36,13 @@ typedef struct edition {
 } edition;
 static edition now;
 
+/* The Initiator Response Timeout of the transfers, and what target() has counted towards it. layout.c runs the tests under several. */
+typedef struct timing {
+    uint16_t irt;
+    uint16_t elapsed;
+} timing;
+static timing timed;
+
 /* ---- answers, all fields ---- */
 
 static int is(ssp_answer a, int what, unsigned number, uint64_t frames, size_t start, size_t len) {
@@ -57,7 +64,7 @@ static int says(ssp_answer a, int what) { return is(a, what, 0, 0, 0, 0); }
 static int same_transfer(ssp_transfer a, ssp_transfer b) {
     return a.write == b.write && a.count == b.count && a.size == b.size && a.window == b.window && a.limit == b.limit &&
            a.burst == b.burst && a.local == b.local && a.remote == b.remote && a.tag == b.tag && a.sas2 == b.sas2 &&
-           a.value == b.value;
+           a.value == b.value && a.irt == b.irt;
 }
 static int same_burst(ssp_burst a, ssp_burst b) {
     return a.base == b.base && a.end == b.end && a.tptt == b.tptt && a.limit == b.limit;
@@ -78,7 +85,7 @@ static int same_writer(ssp_write_initiator a, ssp_write_initiator b) {
 }
 static int same_target(ssp_write_target a, ssp_write_target b) {
     return SAME_RECEIVER(a.receiver, b.receiver) && a.state == b.state && a.tptt == b.tptt && a.retries == b.retries &&
-           a.stored == b.stored && a.under == b.under && a.since == b.since;
+           a.stored == b.stored && a.under == b.under && a.since == b.since && a.elapsed == b.elapsed;
 }
 static int same_responder(ssp_response a, ssp_response b) {
     return same_transfer(a.transfer, b.transfer) && a.len == b.len && a.unanswered == b.unanswered && a.retries == b.retries &&
@@ -105,6 +112,7 @@ static ssp_transfer transfer(bool write, uint32_t local, uint32_t remote) {
     t.tag = TAG;
     t.sas2 = now.sas2;
     t.value = now.value;
+    t.irt = timed.irt;
     return t;
 }
 
@@ -167,6 +175,7 @@ static ssp_write_target target(void) {
     x.tptt = 0x0102;
     x.retries = 1;
     x.since = 3;
+    x.elapsed = timed.elapsed;
     return x;
 }
 

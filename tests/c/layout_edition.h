@@ -78,6 +78,8 @@ static int write_target_refuses(ssp_write_target x, const uint8_t *frame, size_t
     EACH(ssp_write_target_ack_nak_timeout(&x), same_target(x, x0));
     EACH(ssp_write_target_connection_lost(&x), same_target(x, x0));
     EACH(ssp_write_target_nexus_lost(&x), same_target(x, x0));
+    EACH(ssp_write_target_time_reported(&x, 0), same_target(x, x0));
+    EACH(ssp_write_target_time_reported(&x, 0xFFFF), same_target(x, x0));
     EACH(ssp_write_target_frame_received(&x, frame, len, room, COUNT), same_target(x, x0));
     return ok;
 }

@@ -163,6 +163,7 @@ static void target_fields(void) {
         want.stored = true;
         want.under = 0x0102;
         want.since = 0;
+        want.elapsed = 0;
         TRY("DATA of a write: the record left", same_target(x, want));
     }
     TARGET(receiver.transfer.write, false, refused(DATA_16(x), 1));
@@ -187,6 +188,7 @@ static void target_fields(void) {
     TARGET(receiver.ended, true, refused(DATA_16(x), 2) && refused(ask_target(&x), 2) && refused(ssp_write_target_ack_received(&x), 2));
     TARGET(receiver.ended, true, refused(ssp_write_target_nak_received(&x), 2) && refused(ssp_write_target_ack_nak_timeout(&x), 2));
     TARGET(receiver.ended, true, refused(ssp_write_target_connection_lost(&x), 2) && refused(ssp_write_target_nexus_lost(&x), 2));
+    TARGET(receiver.ended, true, refused(ssp_write_target_time_reported(&x, 0xFFFF), 2));
     TARGET(receiver.ended, false, failed(ssp_write_target_nexus_lost(&x), 31, 0) && x.receiver.ended);
 
     TARGET(state, SSP_STATE_NONE, refused(DATA_16(x), 8));
@@ -203,6 +205,7 @@ static void target_fields(void) {
         x.receiver.waiting = true;
         TRY("the XFER_RDY's ACK", says(ssp_write_target_ack_received(&x), SSP_ACKNOWLEDGED));
         want.receiver.expected = want.receiver.filled = 8;
+        want.elapsed = 0;
         TRY("the XFER_RDY's ACK: the record left", same_target(x, want));
     }
     {

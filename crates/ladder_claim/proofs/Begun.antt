@@ -115,7 +115,7 @@ module _ (r : Run) where
 
   -- the target with its XFER_RDY on the way, and with its ACK
   abbrev asking : ℕ → Target
-  asking state = record { receiver = receiver.beginning there 0 (r .count); state = state; tptt = 0; retries = 0; stored = false; under = 0; since = 1 }
+  asking state = record { receiver = receiver.beginning there 0 (r .count); state = state; tptt = 0; retries = 0; stored = false; under = 0; since = 1; elapsed = 0 }
 
   abbrev pub write-target : Target
   write-target = asking READY
@@ -126,7 +126,7 @@ module _ (r : Run) where
 
   issues : issuedOf (target.startOf there) ≡ asking UNANSWERED
   unfolding issuedOf burstOf lowest used search pick
-  issues i = record { receiver = receiver.beginning there 0 (whole-count i); state = UNANSWERED; tptt = 0; retries = 0; stored = false; under = 0; since = 1 }
+  issues i = record { receiver = receiver.beginning there 0 (whole-count i); state = UNANSWERED; tptt = 0; retries = 0; stored = false; under = 0; since = 1; elapsed = 0 }
 
   abbrev head : Header
   head = record { frametype = XFER-RDY; dest = INITIATOR; source = TARGET; flags = record { tlr = 0; retry = ltb 0 (r .limit); retransmit = false; cdp = false }; tag = TAG; tptt = 0; offset = 0 }

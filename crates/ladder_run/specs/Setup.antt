@@ -45,7 +45,7 @@ TAG = 0x0012
 -- line one as a transfer at one end; one burst; SAS-1.1
 abbrev pub transferOf : Run → Bool → ℕ → ℕ → Transfer
 transferOf r write local remote =
-    record { write = write; count = r .count; size = r .size; window = r .window; limit = r .limit; burst = r .count; local = local; remote = remote; tag = TAG; sas2 = false; value = 0 }
+    record { write = write; count = r .count; size = r .size; window = r .window; limit = r .limit; burst = r .count; local = local; remote = remote; tag = TAG; sas2 = false; value = 0; irt = 0 }
 
 -- nothing has gone out yet
 abbrev pub fresh : Sending → Receiving → Ladder

@@ -32,6 +32,7 @@ fn transfer(r: Run, write: bool, local: u32, remote: u32) -> Transfer
         tag: Ladder::TAG,
         sas2: false,
         value: 0,
+        irt: 0,
     }
 }
 

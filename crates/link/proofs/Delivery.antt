@@ -20,6 +20,7 @@ use Rattle.link.proofs.Setting.{Setting, limits}
 use Rattle.link.proofs.Simulates.{Simulates}
 use Rattle.link.proofs.Others.{idle-same}
 use Rattle.link.proofs.Late.{late-keeps}
+use Rattle.link.proofs.Passing.{passing-keeps}
 use Rattle.link.proofs.Invariant.{Live, Done, Reported, Inv}
 use Rattle.link.proofs.Numbers.{j-most, within-bound}
 use Rattle.link.proofs.Asking as live-asking
@@ -48,8 +49,9 @@ module _ {P : Ports} (S : Setting) (M : Simulates P (S .tptt)) where
   step-keeps w Event.cut (inl l) a = live-closing.cutting S M w l
   step-keeps w Event.cut (inr d) a = done.cutting S M w d
   step-keeps w (Event.other k) i (inl a) = subst (Inv S M) (sym (idle-same (M .steady) w k a)) i
-  step-keeps w (Event.other k) (inl l) (inr a) = absurd (a .0 (l .silent))
-  step-keeps w (Event.other k) (inr d) (inr a) = late-keeps S M w d k (a .1)
+  step-keeps w (Event.other k) (inl l) (inr (inl a)) = absurd (a .0 (l .silent))
+  step-keeps w (Event.other k) (inr d) (inr (inl a)) = late-keeps S M w d k (a .1)
+  step-keeps w (Event.other k) i (inr (inr a)) = passing-keeps S M w i k a
 
   pub run-keeps : (w : World P) (es : List (Event P)) → Inv S M w → Allowed w es → Inv S M (run w es)
   run-keeps w [] i a = i

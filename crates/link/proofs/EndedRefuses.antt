@@ -91,6 +91,7 @@ takes : (c : TargetCall) (y : Target) (b : List ℕ) → y .receiver .ended ≡ 
 takes (TargetCall.bytes f) y b e = lent (λ a. storing a (headerIn f .offset) (iuOf f) b) (λ n. refl) (target.arrival-ended y e f (length b))
 takes TargetCall.asking y b e = lent (λ a. handing a (target-ask.frameOf y) b) (λ n. refl) (target.next-ended y e b)
 takes (TargetCall.signals g) y b e = lent (λ a. b) (λ n. refl) (targets g y e)
+takes (TargetCall.time ms) y b e = lent (λ a. b) (λ n. refl) (target.time-ended y e ms)
 
 pub ended-refuses : EndedRefuses
 ended-refuses =

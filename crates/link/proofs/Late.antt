@@ -1,4 +1,4 @@
--- After the report a nexus loss or a RESPONSE may come, at either end: the port's record may end, and nothing else moves.
+-- After the report a nexus loss or a RESPONSE may come, at either end, and a report of time: the port's record may end, and nothing else moves but the sum of milliseconds.
 use Prim.Native.Nat.{ℕ}
 use mathlib.Core.List.{List}
 use mathlib.Core.Bool.{true, false}
@@ -49,7 +49,7 @@ module _ {P : Ports} (S : Setting) (M : Simulates P (S .tptt)) (w : World P) (d 
       (inr
       (done S M (endedOf s) h send-for (ended-holds s (held s s-holds)) (inl refl) no-frames no-answers none-open source size rest bounded reported))
 
-  receiving-moves : (y : P .Receiving) (b : List ℕ) → b ≡ w .received → Inv S M (record { sending = w .sending; receiving = y; sent = w .sent; received = b; frames = w .frames; confirmations = w .confirmations; tally = w .tally; handed = w .handed; report = w .report })
+  pub receiving-moves : (y : P .Receiving) (b : List ℕ) → b ≡ w .received → Inv S M (record { sending = w .sending; receiving = y; sent = w .sent; received = b; frames = w .frames; confirmations = w .confirmations; tally = w .tally; handed = w .handed; report = w .report })
   receiving-moves y b e =
       subst (λ (v : List ℕ). Inv S M (record { sending = w .sending; receiving = y; sent = w .sent; received = v; frames = w .frames; confirmations = w .confirmations; tally = w .tally; handed = w .handed; report = w .report })) (sym e)
       (inr

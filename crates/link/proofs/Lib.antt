@@ -13,6 +13,7 @@ pub mod Answering
 pub mod Closing
 pub mod Resting
 pub mod Late
+pub mod Passing
 pub mod Delivery
 pub mod Filled
 pub mod ReadSimulates
@@ -25,3 +26,4 @@ pub mod TakenAgain
 pub mod EndedRefuses
 pub mod OneFault
 pub mod CarriesValue
+pub mod ResponseTimeout

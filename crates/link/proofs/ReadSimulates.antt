@@ -160,6 +160,8 @@ read-simulates tptt =
       steady = read-steady;
       late-sends = λ c l x s e h. sender-late c l x s e;
       late-receives = reader-late;
+      passes-as = λ c t. absurd t;
+      times-lend = λ c t. absurd t;
     }
 
 -- each record stands for itself

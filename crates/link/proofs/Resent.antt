@@ -31,9 +31,11 @@ use Rattle.target.specs.Record.{UNANSWERED, AGAIN, holdsOf}
 use Rattle.target.specs.Confirmation.{confirmsOf, retryOf}
 use Rattle.target.specs.Transmit.{dueOf, issuedOf, xferRdyHeader, xferRdyIu, frameOf, nextOf}
 use Rattle.target.specs.Arrival as taking
+use Rattle.target.specs.Time.{timeOf}
 use Rattle.target.specs.declared.types.Target.{Target}
 use Rattle.target.proofs.Again as target
 use Rattle.target.proofs.Views.{Came, came}
+use Rattle.target.proofs.Timed.{Timed, timed}
 use Rattle.link.specs.Ports.{Signal, frameIn}
 use Rattle.link.specs.Calls.{TargetCall, targetCall}
 use Rattle.link.specs.Resent.{again, Again, xferRdysOf, Repeats, InTurn, HandedOutAgain}
@@ -164,7 +166,16 @@ module _ (y : Target) where
       go : {z : Left Target} → Came y m z → Quiet z
       go (Came.refused n) b = refl
       go (Came.early e) b = refl
-      go (Came.taken e offset cdp n) b = data-quiet offset cdp n b
+      go (Came.taken t offset cdp n) b = data-quiet offset cdp n b
+
+  time-quiet : (ms : ℕ) → Quiet (timeOf y ms)
+  time-quiet ms = go (timed y ms)
+    where
+      go : {z : Left Target} → Timed y ms z → Quiet z
+      go (Timed.refused n c) b = refl
+      go (Timed.outside c) b = refl
+      go (Timed.expires l) b = refl
+      go (Timed.counts l) b = refl
 
   turn : (c : TargetCall) (b : List ℕ) → let x = targetCall c y b in Turn (x .says) (x .lent) (x .left)
   turn TargetCall.asking b = asks b
@@ -174,6 +185,7 @@ module _ (y : Target) where
   turn (TargetCall.signals Signal.timeout) b = inl (answer-quiet _ (retry-quiet 29) b, target.timeout-keeps y)
   turn (TargetCall.signals Signal.cut) b = inl (event-quiet _ (picked Quiet (eqb (y .state) UNANSWERED) _ _ (retry-quiet 30) (λ b. refl)) b, target.cut-keeps y)
   turn (TargetCall.signals Signal.loss) b = inl (event-quiet _ (λ b. refl) b, target.loss-keeps y)
+  turn (TargetCall.time ms) b = inl (time-quiet ms b, target.time-keeps y ms)
 
   -- what holds of the frames of later calls, by what this one handed out
   turned : (P : List (List ℕ) → Type 0) (c : TargetCall) (b : List ℕ) (later : List (List ℕ)) → let x = targetCall c y b in (target.Keeps y (x .left) → P later) → (x .left ≡ issuedOf y → P (frameOf y ∷ later)) → P (frameIn (x .says) (x .lent) ++ later)

@@ -5,6 +5,7 @@ use mathlib.Core.Bool.{true, false}
 use mathlib.Core.Logic.{_⊎_}
 use mathlib.Core.Path.{_≡_}
 use lib.ListN.{length}
+use Rattle.status.specs.Answer.{fails}
 use Rattle.frame.specs.Format.{DATA, encode}
 use Rattle.frame.specs.Write.{writable, handing}
 use Rattle.frame.specs.RoundTrip.{InRange}
@@ -49,6 +50,9 @@ pub record Simulates (P : Ports) (tptt : ℕ) : Type 1 where
   -- a RESPONSE at the sending port leaves its record or ends it; a RESPONSE or a nexus loss at the receiving port leaves its buffer
   pub late-sends : (c : P .SendCall) → P .SendLate c → (x : P .Sending) (s : Sender) → SendsAs x s → holdsOf s ≡ true → SendsAs (P .sendCall c x .left) s ⊎ SendsAs (P .sendCall c x .left) (endedOf s)
   pub late-receives : (c : P .ReceiveCall) → P .ReceiveLate c → (y : P .Receiving) (b : List ℕ) → P .receiveCall c y b .lent ≡ b
+  -- a report of time that fails nothing leaves the receiving core, and any report of time the buffer
+  pub passes-as : (c : P .ReceiveCall) → P .ReceiveTimes c → (y : P .Receiving) (r : Receiver) (b : List ℕ) → TakesAs y r → fails (P .receiveCall c y b .says) ≡ false → TakesAs (P .receiveCall c y b .left) r
+  pub times-lend : (c : P .ReceiveCall) → P .ReceiveTimes c → (y : P .Receiving) (b : List ℕ) → P .receiveCall c y b .lent ≡ b
 
 -- no signal changes the transfer
 pub signal-shape : (g : Signal) (s : Sender) → Held s → Shape s (s .next) (signalled g s)

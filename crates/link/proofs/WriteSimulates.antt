@@ -1,13 +1,13 @@
 -- The ports of a write burst move as the two cores do, while no further XFER_RDY is taken.
 use Prim.Native.Nat.{ℕ, max, _≤_}
 use mathlib.Core.List.{List, []}
-use mathlib.Core.Bool.{Bool, true, false}
+use mathlib.Core.Bool.{Bool, true, false, false≢true}
 use mathlib.Core.Logic.{_⊎_, inl, inr, ⊎-elim}
 use mathlib.Core.Path.{_≡_, refl, sym, ap, subst, _∙_}
 use native.Mathlib.Omega.{arith}
 use lib.ListN.{length}
 use Rattle.status.specs.Pick.{pick, _with_}
-use Rattle.status.specs.Answer.{Said, Left, _saying_, refuses}
+use Rattle.status.specs.Answer.{Said, Left, _saying_, refuses, fails}
 use Rattle.status.proofs.Leaves.{Leaves, refusing, refused-same, refused-stores, picked}
 use Rattle.transfer.specs.declared.Transfer.{Transfer}
 use Rattle.frame.specs.Format.{encode}
@@ -45,15 +45,17 @@ use Rattle.target.specs.Record.{READY}
 use Rattle.target.specs.Record as target
 use Rattle.target.specs.Transmit as issue
 use Rattle.target.specs.Arrival as arrival
+use Rattle.target.specs.Time.{timeOf}
 use Rattle.target.specs.declared.types.Target.{Target}
 use Rattle.target.proofs.Held as target-held
 use Rattle.target.proofs.Views.{data-arrives, data-placed, lifts-to}
-use Rattle.target.proofs.Kept.{arrived-lent, response-stores-nothing}
+use Rattle.target.proofs.Kept.{arrived-lent, response-stores-nothing, time-kept}
+use Rattle.target.proofs.Timed.{Timed, timed}
 use Rattle.target.proofs.Ended as target-ended
 use Rattle.link.specs.Ports.{Signal, Ports}
 use Rattle.link.specs.Calls.{signalled, writeSignalled, targetSignalled, TargetCall, targetCall}
 use Rattle.link.specs.Reading.{IsResponse}
-use Rattle.link.specs.Writing.{TargetLate, writePorts}
+use Rattle.link.specs.Writing.{TargetLate, TargetTimes, writePorts}
 use Rattle.link.proofs.Others.{Steady}
 use Rattle.link.proofs.Simulates.{Addressed, Simulates, signal-shape}
 
@@ -205,11 +207,32 @@ target-refused (TargetCall.bytes f) y b e =
     (refused-same target-ended.Ended y x (target-ended.arrival-leaves y f (length b)) e, storing-none (x .says) (refused-stores (x .says) e) (headerIn f .offset) (iuOf f) b)
 target-refused TargetCall.asking y b e = let x = issue.nextOf y b in (refused-same target-ended.Ended y x (target-ended.next-leaves y b) e, unhanded (x .says) e (issue.frameOf y) b)
 target-refused (TargetCall.signals g) y b e = (refused-same target-ended.Ended y (targetSignalled g y) (target-leaves g y) e, refl)
+target-refused (TargetCall.time ms) y b e = (refused-same target-ended.Ended y (timeOf y ms) (target-ended.time-leaves y ms) e, refl)
 
 target-late : (c : TargetCall) → TargetLate c → (y : Target) (b : List ℕ) → targetCall c y b .lent ≡ b
 target-late (TargetCall.bytes f) l y b = storing-none (arrival.writeArrivalOf y f (length b) .says) (response-stores-nothing y f (length b) l) (headerIn f .offset) (iuOf f) b
 target-late TargetCall.asking l y b = absurd l
 target-late (TargetCall.signals g) l y b = refl
+target-late (TargetCall.time ms) l y b = refl
+
+-- ── a report of time that fails nothing moves the sum alone ──
+target-passes : (tptt : ℕ) (c : TargetCall) → TargetTimes c → (y : Target) (r : Receiver) (b : List ℕ) → TakesAs tptt y r → fails (targetCall c y b .says) ≡ false → TakesAs tptt (targetCall c y b .left) r
+target-passes tptt (TargetCall.bytes f) t y r b a q = absurd t
+target-passes tptt TargetCall.asking t y r b a q = absurd t
+target-passes tptt (TargetCall.signals g) t y r b a q = absurd t
+target-passes tptt (TargetCall.time ms) t y r b a q = go (timed y ms) (time-kept y (a .holds) ms) q
+  where
+    go : {z : Left Target} → Timed y ms z → target.holdsOf (z .left) ≡ true → fails (z .says) ≡ false → TakesAs tptt (z .left) r
+    go (Timed.refused n c) h q = a
+    go (Timed.outside c) h q = a
+    go (Timed.expires l) h q = absurd (false≢true (sym q))
+    go (Timed.counts l) h q = record { receiver = a .receiver; ready = a .ready; current = a .current; holds = h }
+
+target-lends : (c : TargetCall) → TargetTimes c → (y : Target) (b : List ℕ) → targetCall c y b .lent ≡ b
+target-lends (TargetCall.bytes f) t y b = absurd t
+target-lends TargetCall.asking t y b = absurd t
+target-lends (TargetCall.signals g) t y b = absurd t
+target-lends (TargetCall.time ms) t y b = refl
 
 write-steady : Steady writePorts
 write-steady =
@@ -231,6 +254,8 @@ write-simulates tptt =
       steady = write-steady;
       late-sends = writes-late;
       late-receives = target-late;
+      passes-as = target-passes tptt;
+      times-lend = target-lends;
     }
   where
     arrives-at : (y : Target) (r : Receiver) (h : Header) (iu b : List ℕ) → TakesAs tptt y r → receiving.lentOf r (length b) ≡ true → r .ended ≡ false → Addressed tptt h r → writable h (length iu) ≡ true →

@@ -25,6 +25,7 @@ use Rattle.target.specs.ReadSend.{readNextOf, readAckOf, readNakOf, readTimeout
 use Rattle.target.specs.Transmit as target-ask
 use Rattle.target.specs.Confirmation as target
 use Rattle.target.specs.Arrival as target-take
+use Rattle.target.specs.Time.{timeOf}
 use Rattle.target.specs.declared.types.Target.{Target}
 use Rattle.link.specs.Ports.{Called, lending, Signal}
 
@@ -133,11 +134,12 @@ targetSignalled Signal.cut y = target.cutOf y
 -- target::write_nexus_lost
 targetSignalled Signal.loss y = target.lossOf y
 
--- arrivals of any bytes; an XFER_RDY asked for, lent its output buffer; ACK, NAK, timeout, cut and nexus loss
+-- arrivals of any bytes; an XFER_RDY asked for, lent its output buffer; ACK, NAK, timeout, cut and nexus loss; a report of so many milliseconds
 pub data TargetCall : Type 0 where
   bytes : List ℕ → TargetCall
   asking : TargetCall
   signals : Signal → TargetCall
+  time : ℕ → TargetCall
 
 abbrev pub targetCall : TargetCall → Target → List ℕ → Called Target
 -- target::write_frame_received
@@ -145,3 +147,5 @@ targetCall (TargetCall.bytes f) y b = let x = target-take.writeArrivalOf y f (le
 -- target::write_next_frame
 targetCall TargetCall.asking y out = let x = target-ask.nextOf y out in lending x (handing (x .says) (target-ask.frameOf y) out)
 targetCall (TargetCall.signals g) y b = lending (targetSignalled g y) b
+-- target::write_time_reported
+targetCall (TargetCall.time ms) y b = lending (timeOf y ms) b

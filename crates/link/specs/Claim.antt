@@ -27,7 +27,7 @@ use Rattle.link.specs.World.{World, Event, run, Allowed}
 use Rattle.link.specs.Delivers.{BurstParameters, fresh, Delivers}
 
 -- "both ports set up alike (limits, addresses, tag)": each one's local address is the other's remote one; a tag has 16 bits, and so has the sending port's value. A read has no
--- burst size, and a write burst's is its XFER_RDY's. Nothing is said of editions, and of values only the width
+-- burst size, and a write burst's is its XFER_RDY's. Nothing is said of editions and Initiator Response Timeouts, and of values only the width
 pub record Alike (t u : Transfer) : Type 0 where
   pub count : t .count ≡ u .count
   pub size : t .size ≡ u .size

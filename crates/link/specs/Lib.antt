@@ -11,3 +11,4 @@ pub mod TakenAlike
 pub mod Resent
 pub mod EndedRefuses
 pub mod CarriesValue
+pub mod ResponseTimeout

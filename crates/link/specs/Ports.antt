@@ -28,8 +28,9 @@ pub record Ports : Type 1 where
   pub sendCall : SendCall → Sending → Left Sending
   pub SendLate : SendCall → Type 0
   -- the receiving port's entry points, each with its arguments and the buffer that it is lent to write in; an arrival of any bytes is one;
-  -- those that bring a RESPONSE or the nexus loss
+  -- those that may come after the report: RESPONSE, nexus loss, reports of time; reports of time
   pub ReceiveCall : Type 0
   pub receiveCall : ReceiveCall → Receiving → List ℕ → Called Receiving
   pub ReceiveLate : ReceiveCall → Type 0
+  pub ReceiveTimes : ReceiveCall → Type 0
   pub arrival : List ℕ → ReceiveCall

@@ -41,5 +41,6 @@ readPorts =
       ReceiveCall = ReaderCall;
       receiveCall = readerCall;
       ReceiveLate = ReaderLate;
+      ReceiveTimes = λ c. ⊥;
       arrival = λ f. ReaderCall.bytes f;
     }

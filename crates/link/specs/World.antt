@@ -1,12 +1,12 @@
 -- "The link holds frames and answers on the way, in order, at first none": the world that an event meets, and each event.
 use Prim.Native.Nat.{ℕ}
 use mathlib.Core.List.{List, [], _∷_, _++_}
-use mathlib.Core.Bool.{true}
+use mathlib.Core.Bool.{true, false}
 use mathlib.Core.Logic.{_⊎_}
 use mathlib.Core.Path.{_≡_}
 use lib.ListN.{take}
 use Rattle.status.specs.Pick.{ifAny, _with_}
-use Rattle.status.specs.Answer.{Said, view, Left, refuses}
+use Rattle.status.specs.Answer.{Said, view, Left, refuses, fails}
 pub use Rattle.status.specs.Report.{Report}
 use Rattle.link.specs.Ports.{Called, lending, Signal, Ports}
 use Rattle.link.specs.Tally.{Confirmation, Tally, handedOut, frameLost, frameDamaged, confirmationReached, confirmationLost, cutFault, timeoutFault, closed}
@@ -170,7 +170,7 @@ module _ {P : Ports} where
   Idle w (at-receiver-in c b) = Harmless (w .receiving) b (w .report) (P .receiveCall c (w .receiving) b)
 
   -- "No nexus loss, crossing frame or RESPONSE comes before the report": after it nexus loss and RESPONSE are allowed, at either end; a crossing XFER_RDY
-  -- begins another burst, whose frames are not this one's
+  -- begins another burst, whose frames are not this one's. After the report any report of time is allowed
   abbrev pub Late : Call P → Type 0
   Late (asking d out) = ⊥
   Late (signals Signal.loss) = Unit {0}
@@ -185,8 +185,17 @@ module _ {P : Ports} where
   abbrev pub Reported : World P → Type 0
   Reported w = w .report ≡ Report.none → ⊥
 
+  -- request K4: "Reports of time now stand in the delivery rule's lists, and it also assumes that none of them fails the transfer"
+  abbrev pub Passes : World P → Call P → Type 0
+  Passes w (asking d out) = ⊥
+  Passes w (signals g) = ⊥
+  Passes w (at-sender c) = ⊥
+  Passes w (at-receiver c) = P .ReceiveTimes c × (fails (P .receiveCall c (w .receiving) (w .received) .says) ≡ false)
+  -- a report of time is lent no buffer: `at-receiver` stands for it
+  Passes w (at-receiver-in c b) = ⊥
+
   abbrev pub Allows : World P → Event P → Type 0
-  Allows w (other k) = Idle w k ⊎ (Reported w × Late k)
+  Allows w (other k) = Idle w k ⊎ ((Reported w × Late k) ⊎ Passes w k)
   Allows w (ask out) = Unit {0}
   Allows w arrives = Unit {0}
   Allows w damaged = Unit {0}
@@ -196,7 +205,8 @@ module _ {P : Ports} where
   Allows w timeout = Unit {0}
   Allows w cut = Unit {0}
 
-  -- each other call of the list, met where it stands, is refused or changes nothing, or comes after the report: the only premise on a list
+  -- each other call of the list, met where it stands, is refused or changes nothing; or is a nexus loss, a RESPONSE or a report of time after the report; or is a
+  -- report of time that does not fail the transfer: the only premise on a list
   abbrev pub Allowed : World P → List (Event P) → Type 0
   Allowed w [] = Unit {0}
   Allowed w (e ∷ es) = Allows w e × Allowed (step w e) es

@@ -15,6 +15,13 @@ TargetLate (TargetCall.signals Signal.ack) = ⊥
 TargetLate (TargetCall.signals Signal.nak) = ⊥
 TargetLate (TargetCall.signals Signal.timeout) = ⊥
 TargetLate (TargetCall.signals Signal.cut) = ⊥
+TargetLate (TargetCall.time ms) = Unit {0}
+
+abbrev pub TargetTimes : TargetCall → Type 0
+TargetTimes (TargetCall.bytes f) = ⊥
+TargetTimes TargetCall.asking = ⊥
+TargetTimes (TargetCall.signals g) = ⊥
+TargetTimes (TargetCall.time ms) = Unit {0}
 
 abbrev pub writePorts : Ports
 writePorts =
@@ -30,5 +37,6 @@ writePorts =
       ReceiveCall = TargetCall;
       receiveCall = targetCall;
       ReceiveLate = TargetLate;
+      ReceiveTimes = TargetTimes;
       arrival = λ f. TargetCall.bytes f;
     }

@@ -5,6 +5,7 @@ pub mod Walk
 pub mod LentTransfer
 pub mod LentBuffers
 pub mod LentEvent
+pub mod LentNumber
 pub mod LentBytes
 pub mod LentOut
 pub mod LentTransferLen

@@ -28,7 +28,7 @@ impl CAnswer {
     // 1 to 8: nothing changed
     pub const REFUSED: u8 = 0;
 
-    // 20 to 32, 34: the port has ended; frames
+    // 20 to 34: the port has ended; frames
     pub const FAILED: u8 = 1;
 
     pub const WAIT: u8 = 2;

@@ -8,6 +8,7 @@ ghost use Rattle.target.specs.Record.{stepped, setUpWriteOf};
 ghost use Rattle.target.specs.Confirmation.{ackOf, nakOf, timeoutOf, cutOf, lossOf};
 ghost use Rattle.target.specs.Transmit.{frameOf, nextOf};
 ghost use Rattle.target.specs.Arrival.{writeArrivalOf};
+ghost use Rattle.target.specs.Time.{timeOf};
 ghost use Rattle.ssp.specs.CAnswer.{Leaves, SetsUp};
 use crate::answer;
 use crate::types::CAnswer;
@@ -144,6 +145,22 @@ pub extern "C" fn ssp_write_target_nexus_lost(s: &mut Target) -> CAnswer
     ensures { λ r. ⌜ Leaves (lossOf (now (s .entry))) (now (s .exit)) r ⌝ }
 {
     let r = nexus_lost(*s);
+    *s = r.left;
+    r.answer
+}
+
+fn time_reported(s: Target, milliseconds: u16) -> WriteTargetReturn
+    ensures { λ r. ⌜ Leaves (timeOf s milliseconds) (r .left) (r .answer) ⌝ }
+{
+    returned(target::write_time_reported(s, milliseconds))
+}
+
+// 1, 2; unchanged outside the span; 33 or taken.
+#[no_mangle]
+pub extern "C" fn ssp_write_target_time_reported(s: &mut Target, milliseconds: u16) -> CAnswer
+    ensures { λ r. ⌜ Leaves (timeOf (now (s .entry)) milliseconds) (now (s .exit)) r ⌝ }
+{
+    let r = time_reported(*s, milliseconds);
     *s = r.left;
     r.answer
 }

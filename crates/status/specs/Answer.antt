@@ -3,7 +3,7 @@ use Prim.Native.Nat.{ℕ}
 use mathlib.Core.Bool.{Bool, true, false}
 use mathlib.Core.Option.{Option, none, some}
 use Rattle.status.specs.Number.{refusalNumber, failureNumber}
-use Rattle.status.specs.Report.{Report}
+use Rattle.status.specs.Report.{Report, failing}
 use Rattle.status.specs.declared.entry.Entry.{Entry}
 use Rattle.status.specs.declared.entry.Entry.the-variants.{Open, Closed}
 use Rattle.status.specs.declared.answer.Opened.{Opened}
@@ -14,7 +14,7 @@ use Rattle.status.specs.declared.answer.Answer.the-variants.{Refused, Fa
 pub data Word : Type 0 where
   -- no frame is due
   wait : Word
-  -- the event was taken, with nothing to tell; a retry begins; a cut with nothing unanswered
+  -- the event was taken, with nothing to tell; a retry begins; a cut with nothing unanswered, or a report of time outside its span
   taken retry unchanged : Word
   -- the XFER_RDY had its ACK
   acknowledged : Word
@@ -32,7 +32,7 @@ pub data Taking : Type 0 where
 pub data Said : Type 0 where
   -- refused with that number, 1 to 8
   refused : ℕ → Said
-  -- failed with that number, 20 to 32 or 34; the DATA frames that the port handed out, 0 at one that hands out none
+  -- failed with that number, 20 to 34; the DATA frames that the port handed out, 0 at one that hands out none
   failed : ℕ → ℕ → Said
   -- a frame of that many bytes was handed out
   frame : ℕ → Said
@@ -121,6 +121,9 @@ stores a = view a .stores
 
 abbrev pub refuses : Said → Bool
 refuses a = view a .refuses
+
+abbrev pub fails : Said → Bool
+fails a = failing (view a .report)
 
 -- what a call leaves of the record that it met, and what it answers
 pub record Left (X : Type 0) : Type 0 where

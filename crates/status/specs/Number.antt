@@ -1,9 +1,9 @@
--- The numbers of the paper's words ("Trade words"): 1 to 8 are refusals, 20 to 32 failures that end the port; and 34 of request K9.
+-- The numbers of the paper's words ("Trade words"): 1 to 8 are refusals, 20 to 32 failures that end the port, and so are 33 of request K4 and 34 of request K9.
 use Prim.Native.Nat.{ℕ}
 use Rattle.status.specs.declared.words.Refusal.{Refusal}
 use Rattle.status.specs.declared.words.Refusal.the-variants.{BadRequest, TransferEnded, FrameSpaceShort, AnswerWithoutFrame, MalformedFrame, UnexpectedFrameType, WrongAddress, UnknownTag}
 use Rattle.status.specs.declared.words.Failure.{Failure}
-use Rattle.status.specs.declared.words.Failure.the-variants.{DataOffsetError, TooMuchData, IncorrectDataLength, XferRdyTooShort, XferRdyTooLong, XferRdyIncorrectWriteDataLength, XferRdyRequestedOffsetError, XferRdyNotExpected, NakReceived, AckNakTimeout, ConnectionLost, NexusLoss, ResponseTooShort, ResponseDataWrong}
+use Rattle.status.specs.declared.words.Failure.the-variants.{DataOffsetError, TooMuchData, IncorrectDataLength, XferRdyTooShort, XferRdyTooLong, XferRdyIncorrectWriteDataLength, XferRdyRequestedOffsetError, XferRdyNotExpected, NakReceived, AckNakTimeout, ConnectionLost, NexusLoss, ResponseTooShort, InitiatorResponseTimeout, ResponseDataWrong}
 
 abbrev pub refusalNumber : Refusal → ℕ
 refusalNumber BadRequest = 1
@@ -29,4 +29,5 @@ failureNumber AckNakTimeout = 29
 failureNumber ConnectionLost = 30
 failureNumber NexusLoss = 31
 failureNumber ResponseTooShort = 32
+failureNumber InitiatorResponseTimeout = 33
 failureNumber ResponseDataWrong = 34

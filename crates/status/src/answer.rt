@@ -22,7 +22,7 @@ pub struct Opened {
 pub enum Answer {
     // 1 to 8: nothing changed
     Refused(Refusal),
-    // 20 to 32, 34: the port has ended; with the DATA frames that it handed out, 0 at a port that hands out none
+    // 20 to 34: the port has ended; with the DATA frames that it handed out, 0 at a port that hands out none
     Failed(Failure, u64),
     // no frame is due
     Wait,
@@ -32,7 +32,7 @@ pub enum Answer {
     Taken,
     // a retry begins
     Retry,
-    // a cut with nothing unanswered
+    // a cut with nothing unanswered, or a report of time outside its span
     Unchanged,
     // the read, the write burst or the RESPONSE is delivered, with the DATA frames handed out, 0 of a RESPONSE
     Delivered(u64),

@@ -1,4 +1,4 @@
-// The words of the paper ("Trade words"): eight refusals and fourteen failures, each with its number; and what a call answers.
+// The words of the paper ("Trade words") and of the requests: eight refusals and fifteen failures, each with its number; and what a call answers.
 mod answer;
 mod entry;
 mod words;

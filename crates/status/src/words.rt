@@ -29,6 +29,7 @@ pub enum Failure {
     ConnectionLost,
     NexusLoss,
     ResponseTooShort,
+    InitiatorResponseTimeout,
     ResponseDataWrong,
 }
 
@@ -51,7 +52,7 @@ impl Refusal {
 }
 
 impl Failure {
-    // 20 to 32, and 34.
+    // 20 to 34.
     pub fn number(self) -> u8
         ensures { λ r. ⌜ r ≡ failureNumber self ⌝ }
     {
@@ -69,6 +70,7 @@ impl Failure {
             Failure::ConnectionLost => 30,
             Failure::NexusLoss => 31,
             Failure::ResponseTooShort => 32,
+            Failure::InitiatorResponseTimeout => 33,
             Failure::ResponseDataWrong => 34,
         }
     }

@@ -12,9 +12,11 @@ use Rattle.target.specs.Record.{UNANSWERED, AGAIN, holdsOf}
 use Rattle.target.specs.Transmit.{issuedOf}
 use Rattle.target.specs.Confirmation.{confirmsOf, retryOf, ackOf, nakOf, timeoutOf, cutOf, lossOf}
 use Rattle.target.specs.Arrival.{writeArrivalOf}
+use Rattle.target.specs.Time.{timeOf}
 use Rattle.target.specs.declared.types.Target.{Target}
 use Rattle.target.proofs.Issue.{resent}
 use Rattle.target.proofs.Views.{Came, came, lifts-to}
+use Rattle.target.proofs.Timed.{Timed, timed}
 
 -- the same transfer and burst
 abbrev pub Keeps : Target → Target → Type 0
@@ -46,13 +48,22 @@ module _ (y : Target) where
   pub loss-keeps : Keeps y (lossOf y .left)
   loss-keeps = unless-gives Stays (entryOf (holdsOf y) (y .receiver .ended)) y _ (λ n. stays) (record { transfer = refl; base = refl; end = refl })
 
+  pub time-keeps : (ms : ℕ) → Keeps y (timeOf y ms .left)
+  time-keeps ms = go (timed y ms)
+    where
+      go : {z : Left Target} → Timed y ms z → Stays z
+      go (Timed.refused n c) = stays
+      go (Timed.outside c) = stays
+      go (Timed.expires l) = record { transfer = refl; base = refl; end = refl }
+      go (Timed.counts l) = stays
+
   pub arrival-keeps : (f : List ℕ) (m : ℕ) → Keeps y (writeArrivalOf y f m .left)
   arrival-keeps f m = go (came y f m)
     where
       go : {z : Left Target} → Came y m z → Stays z
       go (Came.refused n) = stays
       go (Came.early e) = stays
-      go (Came.taken e offset cdp n) = rw (lifts-to y (arrivalOf (y .receiver) offset cdp n m) .receiver) (arrival-same (y .receiver) offset cdp n m)
+      go (Came.taken t offset cdp n) = rw (lifts-to y (arrivalOf (y .receiver) offset cdp n m) .receiver) (arrival-same (y .receiver) offset cdp n m)
 
   -- sent again: "the rest the same"
   pub issued-again : y .state ≡ AGAIN → issuedOf y .receiver ≡ y .receiver

@@ -6,28 +6,29 @@ use mathlib.Core.Path.{_≡_, refl}
 use lib.Dec.{eqb}
 use Rattle.frame.specs.Write.{hands}
 use Rattle.status.specs.Entry.{entryOf}
-use Rattle.status.specs.Pick.{pick, _with_}
-use Rattle.status.specs.Answer.{Said, Left, _saying_, stores}
+use Rattle.status.specs.Pick.{pick}
+use Rattle.status.specs.Answer.{Said, Left, _saying_}
 use Rattle.status.specs.Result.{Result}
 use Rattle.status.proofs.Opened.{ended-entry, ended-confirmable}
-use Rattle.status.proofs.Leaves.{Leaves, After, picked, leaves-pick, leaves-unless, unless-gives}
+use Rattle.status.proofs.Leaves.{Leaves, picked, leaves-pick, leaves-unless, unless-gives}
 use Rattle.arrival.specs.Accept.{acceptOf}
 use Rattle.arrival.specs.declared.Role.the-variants.{ReadTarget}
 use Rattle.arrival.specs.declared.Arrived.{Arrived}
 use Rattle.sender_steps.specs.declared.types.Sender.{Sender}
-use Rattle.receiver_steps.specs.Record.{lentOf as lentTo}
 use Rattle.receiver_steps.specs.DataFrame.{storedOf}
 use Rattle.receiver.specs.DataFrame.{arrivalOf}
 use Rattle.receiver_steps.specs.declared.types.Receiver.{Receiver}
 use Rattle.receiver.proofs.Views as taking
-use Rattle.target.specs.Fields.{receiver≔}
 use Rattle.target.specs.Record.{holdsOf}
 use Rattle.target.specs.Transmit.{handsOf, nextOf}
 use Rattle.target.specs.Confirmation.{confirmsOf, retryOf, ackOf, nakOf, timeoutOf, cutOf, lossOf}
-use Rattle.target.specs.Arrival.{freedOf, liftedOf, writeArrivalOf}
+use Rattle.target.specs.Arrival.{liftedOf, writeArrivalOf}
+use Rattle.target.specs.Time.{timeOf}
 use Rattle.target.specs.Read.{readHoldsOf, noneOf, readArrivalOf}
 use Rattle.target.specs.declared.types.Target.{Target}
-use Rattle.target.proofs.Views.{Came, came}
+use Rattle.target.proofs.Held.{core-lent}
+use Rattle.target.proofs.Views.{Takes, Came, came}
+use Rattle.target.proofs.Timed.{Timed, timed}
 
 abbrev pub Ended : Target → Type 0
 Ended x = x .receiver .ended ≡ true
@@ -56,10 +57,19 @@ module _ (x : Target) where
   pub loss-leaves : Leaves Ended x (lossOf x)
   loss-leaves = leaves-unless Ended x (entryOf (holdsOf x) (x .receiver .ended)) _ refl
 
+  pub time-leaves : (ms : ℕ) → Leaves Ended x (timeOf x ms)
+  time-leaves ms = go (timed x ms)
+    where
+      go : {z : Left Target} → Timed x ms z → Leaves Ended x z
+      go (Timed.refused n c) = refl
+      go (Timed.outside c) = refl
+      go (Timed.expires l) = refl
+      go (Timed.counts l) = tt
+
   -- the receiving port's answer
-  lifted-leaves : (offset : ℕ) (cdp : Bool) (n m : ℕ) → Leaves Ended x (liftedOf x (arrivalOf (x .receiver) offset cdp n m))
-  unfolding arrivalOf pick
-  lifted-leaves offset cdp n m = unless-gives (λ (z : Left Receiver). Leaves Ended x (liftedOf x z)) (entryOf (lentTo (x .receiver) m) (x .receiver .ended)) (x .receiver) _ (λ k. refl) (go (taking.judges (x .receiver) offset cdp n))
+  lifted-leaves : (m : ℕ) → Takes x m → (offset : ℕ) (cdp : Bool) (n : ℕ) → Leaves Ended x (liftedOf x (arrivalOf (x .receiver) offset cdp n m))
+  unfolding pick
+  lifted-leaves m t offset cdp n = go (taking.arrived (x .receiver) offset cdp n m (core-lent x m (t .lent)) (t .going))
     where
       go : {z : Left Receiver} → taking.Arrived (x .receiver) offset cdp n z → Leaves Ended x (liftedOf x z)
       go (taking.Arrived.full p) = tt
@@ -67,7 +77,7 @@ module _ (x : Target) where
       go (taking.Arrived.long o p) = refl
       go (taking.Arrived.empty o p) = refl
       go (taking.Arrived.skipped i s) = tt
-      go (taking.Arrived.stored i s) = let y = x with receiver≔ (storedOf (x .receiver) offset n) in picked (λ (a : Said). After Ended a x (pick (stores a) (freedOf y) y)) (eqb (max (x .receiver .filled) (offset + n)) (x .receiver .end)) Said.received Said.stored tt tt
+      go (taking.Arrived.stored i s) = picked (λ (a : Said). Leaves Ended x (liftedOf x (storedOf (x .receiver) offset n saying a))) (eqb (max (x .receiver .filled) (offset + n)) (x .receiver .end)) Said.received Said.stored tt tt
 
   pub arrival-leaves : (f : List ℕ) (m : ℕ) → Leaves Ended x (writeArrivalOf x f m)
   arrival-leaves f m = go (came x f m)
@@ -75,7 +85,7 @@ module _ (x : Target) where
       go : {z : Left Target} → Came x m z → Leaves Ended x z
       go (Came.refused n) = refl
       go (Came.early e) = tt
-      go (Came.taken e offset cdp n) = lifted-leaves offset cdp n m
+      go (Came.taken t offset cdp n) = lifted-leaves m t offset cdp n
 
   -- an ended record: 1 or 2, whatever is asked of it
   module _ (e : x .receiver .ended ≡ true) where
@@ -100,6 +110,10 @@ module _ (x : Target) where
 
     pub loss-ended : (n : ℕ) × (lossOf x ≡ (x saying Said.refused n))
     loss-ended = ended-entry _ _ x _ e
+
+    pub time-ended : (ms : ℕ) → (n : ℕ) × (timeOf x ms ≡ (x saying Said.refused n))
+    unfolding timeOf
+    time-ended ms = ended-entry _ _ x _ e
 
     pub arrival-ended : (f : List ℕ) (m : ℕ) → (n : ℕ) × (writeArrivalOf x f m ≡ (x saying Said.refused n))
     unfolding writeArrivalOf

@@ -22,6 +22,7 @@ pub record Held (x : Target) : Type 0 where
   pub some : (x .state ≡ NONE → ⊥) → x .receiver .base < x .receiver .end
   pub retries-most : x .retries ≤ x .receiver .transfer .limit
   pub since-most : x .since ≤ 16
+  pub elapsed-most : x .elapsed ≤ x .receiver .transfer .irt
 
 pub held : (x : Target) → holdsOf x ≡ true → Held x
 unfolding holdsOf tests
@@ -35,11 +36,12 @@ held x e =
       some = λ n. let e = rw (ne-eqb _ _ n) at (h .1 .1 .1 .0) in omega (arith, leb-true, ltb-true);
       retries-most = omega (arith, leb-true);
       since-most = omega (arith, leb-true);
+      elapsed-most = omega (arith, leb-true);
     }
 
-pub holds-again : (x : Target) → receiver.holdsOf (x .receiver) ≡ true → x .receiver .transfer .write ≡ true → x .state ≤ READY → ((x .state ≡ NONE → ⊥) → x .receiver .base < x .receiver .end) → x .retries ≤ x .receiver .transfer .limit → x .since ≤ 16 → holdsOf x ≡ true
+pub holds-again : (x : Target) → receiver.holdsOf (x .receiver) ≡ true → x .receiver .transfer .write ≡ true → x .state ≤ READY → ((x .state ≡ NONE → ⊥) → x .receiver .base < x .receiver .end) → x .retries ≤ x .receiver .transfer .limit → x .since ≤ 16 → x .elapsed ≤ x .receiver .transfer .irt → holdsOf x ≡ true
 unfolding holdsOf tests
-holds-again x c w a b r s = simp (c, w, le-leb _ _ a, go (eqb (x .state) NONE) refl, le-leb _ _ r, le-leb _ _ s)
+holds-again x c w a b r s m = simp (c, w, le-leb _ _ a, go (eqb (x .state) NONE) refl, le-leb _ _ r, le-leb _ _ s, le-leb _ _ m)
   where
     go : (t : Bool) → eqb (x .state) NONE ≡ t → (eqb (x .state) NONE || ltb (x .receiver .base) (x .receiver .end)) ≡ true
     go true e = rw e

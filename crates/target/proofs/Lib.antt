@@ -2,7 +2,10 @@ pub mod Held
 pub mod Lowest
 pub mod Issue
 pub mod Views
+pub mod Timed
 pub mod ReadSteps
 pub mod Ended
 pub mod Kept
 pub mod Again
+pub mod Moved
+pub mod Within

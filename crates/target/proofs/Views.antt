@@ -14,7 +14,7 @@ use Rattle.status.specs.Result.{Result}
 use Rattle.status.specs.declared.entry.Entry.{Entry}
 use Rattle.status.specs.declared.entry.Entry.the-variants.{Open, Closed}
 use Rattle.status.proofs.Opened.{differ, opened, open-entry, confirmed}
-use Rattle.status.proofs.Leaves.{picked, unless-gives}
+use Rattle.status.proofs.Leaves.{picked}
 use Rattle.frame.specs.Format.{DATA, encode}
 use Rattle.frame.specs.Read.{headerIn, iuOf}
 use Rattle.frame.specs.Write.{writable, over, handing, hands}
@@ -83,23 +83,33 @@ acknowledged z e = go (confirmsOf z) refl e
     go (Closed why) p e = differ (cc)
 
 -- ── any bytes f at a data buffer of m bytes ──
+-- DATA behind 1, 2 and 5 to 8, after the XFER_RDY's ACK
+pub record Takes (x : Target) (m : ℕ) : Type 0 where
+  pub lent : lentOf x m ≡ true
+  pub going : x .receiver .ended ≡ false
+  pub ready : x .state ≡ READY
+
 pub data Came (x : Target) (m : ℕ) : Left Target → Type 0 where
   refused : (n : ℕ) → Came x m (x saying Said.refused n)
   -- before the XFER_RDY's ACK
   early : (x .state ≡ READY → ⊥) → Came x m (x saying Said.word Word.discarded)
-  taken : x .state ≡ READY → (offset : ℕ) (cdp : Bool) (n : ℕ) → Came x m (liftedOf x (arrivalOf (x .receiver) offset cdp n m))
+  taken : Takes x m → (offset : ℕ) (cdp : Bool) (n : ℕ) → Came x m (liftedOf x (arrivalOf (x .receiver) offset cdp n m))
 
 pub came : (x : Target) (f : List ℕ) (m : ℕ) → Came x m (writeArrivalOf x f m)
 unfolding writeArrivalOf takenOf pick
-came x f m = unless-gives (Came x m) (entryOf (lentOf x m) (x .receiver .ended)) x _ refused (go (acceptOf WriteTarget (x .receiver .transfer) f))
+came x f m = by-entry (entryOf (lentOf x m) (x .receiver .ended)) refl
   where
-    by-state : (a : Arrived) (t : Bool) → eqb (x .state) READY ≡ t → Came x m (pick t (liftedOf x (arrivalOf (x .receiver) (a .header .offset) (a .header .flags .cdp) (a .len) m)) (x saying Said.word Word.discarded))
-    by-state a true e = taken (eqb-true _ _ e) _ _ _
-    by-state a false e = early (eqb-false _ _ e)
+    by-state : (lentOf x m ≡ true) × (x .receiver .ended ≡ false) → (a : Arrived) (t : Bool) → eqb (x .state) READY ≡ t → Came x m (pick t (liftedOf x (arrivalOf (x .receiver) (a .header .offset) (a .header .flags .cdp) (a .len) m)) (x saying Said.word Word.discarded))
+    by-state o a true e = taken (record { lent = o .0; going = o .1; ready = eqb-true _ _ e }) _ _ _
+    by-state o a false e = early (eqb-false _ _ e)
 
-    go : (o : Result Arrived) → Came x m (arrivedBy o x m)
-    go (Result.number n) = refused n
-    go (Result.value a) = picked (Came x m) (isCurrent x (a .header)) _ _ (by-state a (eqb (x .state) READY) refl) (refused 8)
+    go : (lentOf x m ≡ true) × (x .receiver .ended ≡ false) → (y : Result Arrived) → Came x m (arrivedBy y x m)
+    go o (Result.number n) = refused n
+    go o (Result.value a) = picked (Came x m) (isCurrent x (a .header)) _ _ (by-state o a (eqb (x .state) READY) refl) (refused 8)
+
+    by-entry : (e : Entry) → e ≡ entryOf (lentOf x m) (x .receiver .ended) → Came x m (unless e x (arrivedBy (acceptOf WriteTarget (x .receiver .transfer) f) x m))
+    by-entry Open p = go (opened _ _ p) (acceptOf WriteTarget (x .receiver .transfer) f)
+    by-entry (Closed why) p = refused _
 
 -- the receiving port's answer z
 pub record Lifts (x : Target) (z : Left Receiver) : Type 0 where

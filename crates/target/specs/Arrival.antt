@@ -13,7 +13,7 @@ use Rattle.arrival.specs.declared.Role.the-variants.{WriteTarget}
 use Rattle.arrival.specs.declared.Arrived.{Arrived}
 use Rattle.receiver.specs.DataFrame.{arrivalOf}
 use Rattle.receiver_steps.specs.declared.types.Receiver.{Receiver}
-use Rattle.target.specs.Fields.{receiver≔, stored≔, under≔, since≔}
+use Rattle.target.specs.Fields.{receiver≔, stored≔, under≔, since≔, elapsed≔}
 use Rattle.target.specs.Record.{NONE, READY, holdsOf}
 use Rattle.target.specs.declared.types.Target.{Target}
 
@@ -21,10 +21,10 @@ use Rattle.target.specs.declared.types.Target.{Target}
 abbrev pub freedOf : Target → Target
 freedOf x = x with stored≔ true with under≔ (x .tptt) with since≔ 0
 
--- the receiving port's answer z
+-- the receiving port's answer z; request K4: the sum starts from zero "at each DATA frame stored, not at a discarded one"
 abbrev pub liftedOf : Target → Left Receiver → Left Target
 liftedOf x z =
-    pick (stores (z .says)) (freedOf (x with receiver≔ (z .left))) (x with receiver≔ (z .left)) saying z .says
+    pick (stores (z .says)) (freedOf (x with receiver≔ (z .left) with elapsed≔ 0)) (x with receiver≔ (z .left)) saying z .says
 
 -- "in write DATA also a TPTT not current": the current one is that of the last XFER_RDY handed out
 abbrev pub isCurrent : Target → Header → Bool

@@ -7,14 +7,14 @@ use Rattle.status.specs.Entry.{entryOf, confirmableOf}
 use Rattle.status.specs.Answer.{Word, Said, Left, _saying_, unless}
 use Rattle.status.specs.declared.entry.Entry.{Entry}
 use Rattle.receiver_steps.specs.Fields.{expected≔, filled≔, waiting≔}
-use Rattle.target.specs.Fields.{receiver≔, state≔, retries≔}
+use Rattle.target.specs.Fields.{receiver≔, state≔, retries≔, elapsed≔}
 use Rattle.target.specs.Record.{UNANSWERED, AGAIN, READY, holdsOf, failedOf}
 use Rattle.target.specs.declared.types.Target.{Target}
 
--- "At its ACK, expected offset and filled mark are the burst's base"
+-- "At its ACK, expected offset and filled mark are the burst's base"; request K4: "The sum starts from zero at the ACK of an XFER_RDY"
 abbrev pub acknowledgedOf : Target → Target
 acknowledgedOf x =
-    x with receiver≔ (x .receiver with expected≔ (x .receiver .base) with filled≔ (x .receiver .base) with waiting≔ false) with state≔ READY
+    x with receiver≔ (x .receiver with expected≔ (x .receiver .base) with filled≔ (x .receiver .base) with waiting≔ false) with state≔ READY with elapsed≔ 0
 
 -- "After NAK, timeout or cut it is sent again within the limit"
 abbrev pub retriedOf : Target → Target

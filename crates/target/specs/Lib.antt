@@ -4,5 +4,6 @@ pub mod Record
 pub mod Transmit
 pub mod Confirmation
 pub mod Arrival
+pub mod Time
 pub mod Read
 pub mod ReadSend

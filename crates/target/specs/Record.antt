@@ -32,13 +32,13 @@ abbrev pub READY : ℕ
 READY = 3
 
 -- 1 as for the receiving port; the record is a write's; one of the four states; "write burst 1 to the byte count", once an XFER_RDY was handed out; retries at most
--- the limit; tags handed out since a store at most 16, the greatest retry limit and one.
--- `tptt` is the tag of the XFER_RDY handed out last; `stored`, `under`: DATA was stored, last under that tag; `since`: tags handed out since
+-- the limit; tags handed out since a store at most 16, the greatest retry limit and one; milliseconds counted at most the Initiator Response Timeout.
+-- `tptt` is the tag of the XFER_RDY handed out last; `stored`, `under`: DATA was stored, last under that tag; `since`: tags handed out since; `elapsed`: see specs/Time
 unfoldable pub tests : Target → List Bool
 tests x =
     receiver.holdsOf (x .receiver) ∷ x .receiver .transfer .write ∷
     leb (x .state) READY ∷ (eqb (x .state) NONE || ltb (x .receiver .base) (x .receiver .end)) ∷
-    leb (x .retries) (x .receiver .transfer .limit) ∷ leb (x .since) 16 ∷ []
+    leb (x .retries) (x .receiver .transfer .limit) ∷ leb (x .since) 16 ∷ leb (x .elapsed) (x .receiver .transfer .irt) ∷ []
 
 unfoldable pub holdsOf : Target → Bool
 holdsOf x = all (tests x)
@@ -50,7 +50,7 @@ failedOf x n =
 
 -- no XFER_RDY is handed out yet: an empty burst at 0, filled
 abbrev pub startOf : Transfer → Target
-startOf t = record { receiver = beginning t 0 0; state = NONE; tptt = 0; retries = 0; stored = false; under = 0; since = 0 }
+startOf t = record { receiver = beginning t 0 0; state = NONE; tptt = 0; retries = 0; stored = false; under = 0; since = 0; elapsed = 0 }
 
 abbrev pub setUpTests : Transfer → List Bool
 setUpTests t = limitsHold t ∷ t .write ∷ []

@@ -20,7 +20,7 @@ fn confirmable(x: Target) -> Entry
     status::confirmable(ok, ended, x.state == Target::UNANSWERED)
 }
 
-// At its ACK, expected offset and filled mark are the burst's base.
+// At its ACK, expected offset and filled mark are the burst's base, and the sum of milliseconds starts from zero.
 fn acknowledged(mut x: Target) -> WriteStepped
     ensures { λ y. ⌜ stepped y ≡ (acknowledgedOf x saying Said.word Word.acknowledged) ⌝ }
 {
@@ -30,6 +30,7 @@ fn acknowledged(mut x: Target) -> WriteStepped
     r.waiting = false;
     x.receiver = r;
     x.state = Target::READY;
+    x.elapsed = 0;
     WriteStepped {
         target: x,
         answer: Answer::Acknowledged,

@@ -29,7 +29,7 @@ fn freed(mut x: Target) -> Target
     x
 }
 
-// The receiving port's answer.
+// The receiving port's answer; where DATA was stored, the sum of milliseconds starts from zero.
 fn lift(mut x: Target, z: receiver::Stepped) -> WriteStepped
     ensures { λ y. ⌜ stepped y ≡ liftedOf x (receiver.stepped z) ⌝ }
 {
@@ -37,6 +37,7 @@ fn lift(mut x: Target, z: receiver::Stepped) -> WriteStepped
     let a = z.answer;
     x.receiver = r;
     if a.stores() {
+        x.elapsed = 0;
         return WriteStepped {
             target: freed(x),
             answer: a,

@@ -1,4 +1,4 @@
-// The target port. A write command: XFER_RDY handed out and resent, its tags, write DATA arrivals. A read command: its frames, their confirmations, what arrives.
+// The target port. A write command: XFER_RDY handed out and resent, its tags, write DATA arrivals, reports of time. A read command: its frames, their confirmations, what arrives.
 // Every function here is an entry point.
 mod confirmation;
 mod incoming;
@@ -6,6 +6,7 @@ mod read;
 mod read_send;
 mod record;
 mod tag;
+mod time;
 mod transmit;
 mod types;
 
@@ -28,6 +29,7 @@ pub use sender::ReadSetup;
 pub use sender::Sender;
 pub use sender::Stepped as ReadStepped;
 pub use sender::set_up_read;
+pub use time::write_time_reported;
 pub use transmit::write_next_frame;
 pub use types::Target;
 pub use types::WriteSetup;

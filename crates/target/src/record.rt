@@ -24,6 +24,7 @@ pub(crate) fn holds(x: Target) -> bool
         & ((x.state == Target::NONE) | (r.base < r.end))
         & (x.retries <= t.limit)
         & (x.since <= 16)
+        & (x.elapsed <= t.irt)
 }
 
 // A refusal leaves the record as it was.
@@ -66,6 +67,7 @@ pub fn set_up_write(t: Transfer) -> WriteSetup
             stored: false,
             under: 0,
             since: 0,
+            elapsed: 0,
         })
     } else {
         WriteSetup::Refused(Refusal::BadRequest)

@@ -17,6 +17,8 @@ pub struct Target {
     // the XFER_RDY's state, one of the four below
     pub state: u8,
     pub stored: bool,
+    // milliseconds counted towards the Initiator Response Timeout
+    pub elapsed: u16,
 }
 
 impl Target {

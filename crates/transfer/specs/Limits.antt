@@ -1,6 +1,6 @@
 -- "Limits of a transfer": "byte count 1 to 16,777,216. Data per frame a multiple of four, 4 to 1,024. Unanswered frames (the window) 1 to 64.
 -- Retry limit 0 to 15 .. Write burst 1 to the byte count"; and "a hashed address passes 24 bits" is 1 too.
--- Request K7: "Under SAS-2 the caller gives a value of 0 to 65,535"; "a nonzero value under SAS-1.1 is 1".
+-- Request K7: "Under SAS-2 the caller gives a value of 0 to 65,535"; "a nonzero value under SAS-1.1 is 1". Request K4: "0 to 65,535 milliseconds", all that 16 bits hold.
 use Prim.Native.Nat.{_%_, _^_, _-_}
 use mathlib.Core.Bool.{Bool, true, false, _||_}
 use mathlib.Core.List.{List, [], _∷_}

@@ -25,6 +25,8 @@ pub struct Transfer {
     pub sas2: bool,
     // the TPTT of every read DATA and RESPONSE of the command; 0 under SAS-1.1
     pub value: u16,
+    // Initiator Response Timeout of a write's target, in milliseconds; 0: off
+    pub irt: u16,
 }
 
 pub enum Made {
@@ -85,8 +87,9 @@ impl Transfer {
         tag: u16,
         sas2: bool,
         value: u16,
+        irt: u16,
     ) -> Made
-        ensures { λ r. ⌜ made r ≡ madeOf (record { write = write; count = count; size = size; window = window; limit = limit; burst = burst; local = local; remote = remote; tag = tag; sas2 = sas2; value = value }) ⌝ }
+        ensures { λ r. ⌜ made r ≡ madeOf (record { write = write; count = count; size = size; window = window; limit = limit; burst = burst; local = local; remote = remote; tag = tag; sas2 = sas2; value = value; irt = irt }) ⌝ }
     {
         let t = Transfer {
             write: write,
@@ -100,6 +103,7 @@ impl Transfer {
             tag: tag,
             sas2: sas2,
             value: value,
+            irt: irt,
         };
         if t.limits_hold() {
             Made::Taken(t)

@@ -39,7 +39,7 @@ ended-allowed : Allowed eightStart endedEvents
 unfolding computed eightStart endedEvents
 ended-allowed =
     tt then tt then tt then tt then tt then tt then
-    inr (given {n = 2} (inl refl), tt) then inr (given {n = 2} (inl refl), refl) then
+    inr (inl (given {n = 2} (inl refl), tt)) then inr (inl (given {n = 2} (inl refl), refl)) then
     inl (inl refl) then inl (inl refl) then inl (inl refl) then inl (inl refl) then
     inl (inl refl) then inl (inl refl) then inl (inl refl) then
     tt then tt then tt

@@ -35,7 +35,7 @@ ten-allowed =
     inl (inl refl) then
     tt then tt then tt then
     inl (inl refl) then tt then
-    inr (given {n = 11} (inl refl), refl) then inr (given {n = 11} (inl refl), tt) then tt
+    inr (inl (given {n = 11} (inl refl), refl)) then inr (inl (given {n = 11} (inl refl), tt)) then tt
 
 pub ten-delivered : TenDelivered
 unfolding computed tenStart tenTransfer tenLate
@@ -46,7 +46,7 @@ unfolding computed sixStart sixTransfer sixLate
 six-allowed =
     tt then tt then tt then tt then tt then tt then tt then tt then tt then tt then
     tt then inl (inl refl) then
-    inr (given {n = 3} (inr (29, refl)), tt) then inr (given {n = 3} (inr (29, refl)), refl) then tt
+    inr (inl (given {n = 3} (inr (29, refl)), tt)) then inr (inl (given {n = 3} (inr (29, refl)), refl)) then tt
 
 pub six-failed : SixFailed
 unfolding computed sixStart sixTransfer sixLate

@@ -42,8 +42,8 @@ second-allowed =
     tt then tt then tt then inl (inl refl) then tt then
     tt then tt then
     inl (inl refl) then tt then
-    inr (given {n = 8} (inl refl), refl) then tt then
-    inr (given {n = 8} (inl refl), tt) then inl (inl refl) then tt
+    inr (inl (given {n = 8} (inl refl), refl)) then tt then
+    inr (inl (given {n = 8} (inl refl), tt)) then inl (inl refl) then tt
 
 second-delivered : SecondDelivered
 unfolding computed-write secondStart secondTransfer secondLate
@@ -85,7 +85,7 @@ resent-allowed =
     inl (inl refl) then
     tt then tt then tt then tt then tt then tt then
     tt then tt then tt then tt then tt then tt then
-    inr (given {n = 4} (inl refl), tt) then tt
+    inr (inl (given {n = 4} (inl refl), tt)) then tt
 
 resent-delivered : ResentDelivered
 unfolding computed-write resentStart resentTransfer

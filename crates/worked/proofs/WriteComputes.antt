@@ -11,8 +11,9 @@ use Rattle.target.specs.Transmit as issue
 use Rattle.target.specs.Confirmation.{retryOf, confirmsOf}
 use Rattle.target.specs.Arrival.{takenOf}
 use Rattle.target.specs.Arrival as taking
+use Rattle.target.specs.Time as time
 use Rattle.worked.proofs.ReadComputes.{computed}
 
 unfoldable pub computed-write : Unit {0}
-unfolding computed frame.xferRdyOf xferRdyBytes initiator.tests initiator.holdsOf lentOf begunOf nextOf countedOf confirmedOf fitsOf repeatOf dispositionOf nextTaken burstTaken xferRdyTaken responseOf writeArrivalOf member search lowest used target.tests target.holdsOf dueOf burstOf issuedOf xferRdyHeader xferRdyIu frameOf issue.nextOf retryOf confirmsOf takenOf taking.lentOf taking.writeArrivalOf
+unfolding computed frame.xferRdyOf xferRdyBytes initiator.tests initiator.holdsOf lentOf begunOf nextOf countedOf confirmedOf fitsOf repeatOf dispositionOf nextTaken burstTaken xferRdyTaken responseOf writeArrivalOf member search lowest used target.tests target.holdsOf dueOf burstOf issuedOf xferRdyHeader xferRdyIu frameOf issue.nextOf retryOf confirmsOf takenOf taking.lentOf taking.writeArrivalOf time.runsOf time.elapsedOf time.timeOf
 computed-write = tt

@@ -4,6 +4,7 @@ pub mod Read
 pub mod Faults
 pub mod Pairing
 pub mod Write
+pub mod Silent
 pub mod Crossing
 pub mod Repeat
 pub mod Response

@@ -110,7 +110,7 @@ abbrev pub sentFirst : Writer
 sentFirst = writer 0 0 5 5 5 0 0 2
 
 abbrev pub filledFirst : Target
-filledFirst = record { receiver = filled 0 5 5; state = 3; tptt = 0; retries = 0; stored = true; under = 0; since = 0 }
+filledFirst = record { receiver = filled 0 5 5; state = 3; tptt = 0; retries = 0; stored = true; under = 0; since = 0; elapsed = 0 }
 
 -- Burst 2, from there: frames at 5 and 9.
 unfoldable pub secondStart : World writePorts
@@ -203,7 +203,7 @@ pub record Command : Type 1 where
 
 -- Burst 2 where its XFER_RDY, with TPTT 1, was handed out and never reached the initiator: after the timeout it is to be sent again, the first retry.
 abbrev pub unheard : Target
-unheard = record { receiver = filled 5 10 5; state = 2; tptt = 1; retries = 1; stored = true; under = 0; since = 1 }
+unheard = record { receiver = filled 5 10 5; state = 2; tptt = 1; retries = 1; stored = true; under = 0; since = 1; elapsed = 0 }
 
 unfoldable pub resentStart : World writePorts
 resentStart = agreed sentFirst unheard half

@@ -66,6 +66,8 @@ pub struct Transfer {
     /// K7: the edition, SAS-1.1 or SAS-2, and the value that the caller gives.
     pub sas2: bool,
     pub value: u16,
+    /// K4: the Initiator Response Timeout in milliseconds; 0 switches it off. Only the target of a write goes by it.
+    pub irt: u16,
 }
 
 #[repr(C)]
@@ -123,6 +125,8 @@ pub struct Target {
     pub since: u16,
     pub state: u8,
     pub stored: bool,
+    /// K4: the sum of the reports of time.
+    pub elapsed: u16,
 }
 
 #[repr(C)]
@@ -237,7 +241,8 @@ impl Target {
         let t = &r.transfer;
         // A burst that was handed out is at least 1 byte; at most 16 tags go out between two stores (15 retries).
         let burst = self.state == STATE_NONE || r.base < r.end;
-        r.fits() && t.write && self.state <= 3 && burst && self.retries <= t.limit && self.since <= 16
+        let counts = self.retries <= t.limit && self.since <= 16 && self.elapsed <= t.irt;
+        r.fits() && t.write && self.state <= 3 && burst && counts
     }
 }
 

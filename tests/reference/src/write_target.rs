@@ -82,6 +82,7 @@ pub fn ack_received(t: &mut Target) -> Answer {
         t.receiver.expected = t.receiver.base;
         t.receiver.filled = t.receiver.base;
         t.receiver.waiting = false;
+        t.elapsed = 0;
         Answer::is(ACKNOWLEDGED)
     })
 }
@@ -123,6 +124,24 @@ pub fn nexus_lost(t: &mut Target) -> Answer {
     with(t, |t| fail(t, 31))
 }
 
+/// K4: the sum grows here. It starts from zero in `ack_received` and in `frame_received`.
+pub fn time_reported(t: &mut Target, milliseconds: u16) -> Answer {
+    with(t, |t| {
+        let value = u32::from(t.receiver.transfer.irt);
+        let acknowledged = t.state == STATE_READY;
+        let filled = t.receiver.filled == t.receiver.end;
+        if value == 0 || !acknowledged || filled {
+            return Answer::is(UNCHANGED);
+        }
+        let sum = u32::from(t.elapsed) + u32::from(milliseconds);
+        if sum >= value {
+            return fail(t, 33);
+        }
+        t.elapsed = sum as u16;
+        Answer::is(TAKEN)
+    })
+}
+
 pub fn frame_received(t: &mut Target, bytes: &[u8], data: &mut [u8]) -> Answer {
     if data.len() != t.receiver.transfer.count as usize {
         return Answer::refused(1);
@@ -143,6 +162,7 @@ pub fn frame_received(t: &mut Target, bytes: &[u8], data: &mut [u8]) -> Answer {
             t.stored = true;
             t.under = t.tptt;
             t.since = 0;
+            t.elapsed = 0;
         }
         answer
     })

@@ -182,6 +182,7 @@ fn read(count: usize, size: usize) -> Transfer {
         write: false,
         sas2: false,
         value: 0,
+        irt: 0,
     }
 }
 

@@ -1,6 +1,7 @@
-//! Rules and error cases of the T10 papers 001 to 003 as vectors: XFER_RDY at both ends, and write DATA at the target. Papers and marks as
-//! in `states`.
+//! Rules and error cases of the T10 papers 001 to 003 as vectors: XFER_RDY at both ends, write DATA at the target, and its timer. Papers and
+//! marks as in `states`.
 use super::pair::{Call, Rec};
+use super::silent_vectors;
 use super::states::{asked, ended, open, sends, taken, BAD};
 use super::vectors::*;
 use crate::records::*;
@@ -287,6 +288,53 @@ fn xfer_rdy_taken() -> Result<u64, String> {
     Ok(n)
 }
 
+/// The Initiator Response Timeout timer. In 001 and 002 it runs by itself; K4: by reports of time.
+fn timer() -> Result<u64, String> {
+    let mut n = 0;
+    let time = |s: &mut Script, ms, due: (u8, u8)| s.call(Call::Time(ms), due).map(|_| ());
+    // 002, 1.0.0.1.3.5.1 b) and 001, 9.2.6.3.3.6.1 a): it starts when the state is entered, at the XFER_RDY's ACK, and expires at its value.
+    // 002: that ends the state machine.
+    let mut s = silent_vectors::open("002 timer b", 2000, 8, 1, 8)?;
+    time(&mut s, 1999, (TAKEN, 0))?;
+    time(&mut s, 1, (FAILED, 33))?;
+    ended(&mut s)?;
+    n += s.holds(true)?;
+    // 002, c) and 001, b): it starts again when data was processed, also where that replaces what was received before.
+    let mut s = silent_vectors::open("002 timer c", 2000, 8, 1, 8)?;
+    for (offset, flags) in [(0, 0), (2, 0), (0, 1), (2, 0), (4, 0)] {
+        time(&mut s, 1999, (TAKEN, 0))?;
+        s.arrives(data(offset, flags, 0, 7, 2), (STORED, 0))?;
+    }
+    time(&mut s, 2000, (FAILED, 33))?;
+    n += s.holds(s.pair.data[0] == [7, 7, 7, 7, 7, 7, 6, 7])?;
+    // 002, a): at any DATA that arrives; K4: not at one that is discarded. Nor, 001, b), at one of another tag, which is not verified.
+    for (f, due) in [(data(4, 0, 0, 9, 4), (DISCARDED, 0)), (data(0, 0, 1, 9, 4), (REFUSED, 8))] {
+        let mut s = silent_vectors::open("002 timer a", 2000, 8, 1, 8)?;
+        time(&mut s, 1000, (TAKEN, 0))?;
+        s.arrives(f, due)?;
+        time(&mut s, 1000, (FAILED, 33))?;
+        n += s.holds(true)?;
+    }
+    // 001: it is stopped when the state is left, at a burst's end; neither paper starts it while an XFER_RDY goes out.
+    let mut s = silent_vectors::fresh("001 timer stopped", 2000, 8, 1, 4)?;
+    for base in [0, 4] {
+        time(&mut s, 65_535, (UNCHANGED, 0))?;
+        s.frame(base, 4, base as u16 / 4)?;
+        time(&mut s, 65_535, (UNCHANGED, 0))?;
+        s.call(Call::Ack, (ACKNOWLEDGED, 0))?;
+        time(&mut s, 1999, (TAKEN, 0))?;
+        s.arrives(data(base, 0, base as u16 / 4, 7, 4), (RECEIVED, 0))?;
+    }
+    time(&mut s, 65_535, (UNCHANGED, 0))?;
+    n += s.holds(s.pair.data[0] == [7; 8])?;
+    // 002, table 4: "An initiator response timeout of zero indicates that the SSP target port shall disable" it.
+    let mut s = silent_vectors::open("002 timer off", 0, 8, 1, 8)?;
+    time(&mut s, 65_535, (UNCHANGED, 0))?;
+    s.arrives(data(0, 0, 0, 7, 8), (RECEIVED, 0))?;
+    n += s.holds(true)?;
+    Ok(n)
+}
+
 pub fn all() -> Result<u64, String> {
-    Ok(write_data_received()? + xfer_rdy_sent()? + xfer_rdy_taken()?)
+    Ok(write_data_received()? + xfer_rdy_sent()? + xfer_rdy_taken()? + timer()?)
 }

@@ -4,7 +4,6 @@
 use super::opened::counted;
 use super::pair::{Pair, Rec};
 use super::rng::Rng;
-use crate::ffi;
 use crate::records::*;
 
 /// Where a value of 16 bits has its ends and its bytes theirs.
@@ -90,10 +89,6 @@ pub(super) fn carries(rec: &Rec) -> bool {
 
 /// Calls compared, or the first difference.
 pub fn all() -> Result<u64, String> {
-    let number = unsafe { ffi::ssp_interface_2() };
-    if number != 2 {
-        return Err(format!("ssp_interface_2 gave {number}"));
-    }
     counted(|| {
         let by_hand = super::editions_vectors::all().map_err(|e| format!("by hand: {e}"))?;
         let values = super::editions_values::all().map_err(|e| format!("values: {e}"))?;

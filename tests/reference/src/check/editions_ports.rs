@@ -14,7 +14,7 @@ use std::collections::BTreeSet;
 const VALUES: [u16; 7] = [0, 1, 255, 256, 0x8001, 65_534, 65_535];
 
 /// Twelve bytes in frames of four, window 2, limit 1.
-fn senders() -> Result<Vec<Script>, String> {
+pub(super) fn senders() -> Result<Vec<Script>, String> {
     let out = |name, at: &[u32], calls: &[(Call, u8)]| -> Result<Script, String> {
         let mut s = read_sender(name, 12, 2, 1)?;
         sends(&mut s, 0, at)?;
@@ -52,7 +52,7 @@ fn senders() -> Result<Vec<Script>, String> {
 }
 
 /// Of a read and of a write, limit 0 and 1.
-fn responders() -> Result<Vec<Script>, String> {
+pub(super) fn responders() -> Result<Vec<Script>, String> {
     let mut all = Vec::new();
     for write in [false, true] {
         for limit in [0, 1] {
@@ -80,7 +80,7 @@ fn next(pair: &Pair) -> Option<Call> {
 }
 
 /// All but set-ups; frames with each value of the flags.
-fn calls(pair: &Pair) -> Vec<Call> {
+pub(super) fn calls(pair: &Pair) -> Vec<Call> {
     let n = pair.data[0].len();
     let mut all = vec![Call::Loss];
     if next(pair).is_some() {

@@ -4,6 +4,7 @@
 use super::editions::*;
 use super::pair::{Call, Pair, Rec};
 use super::rng::Rng;
+use super::silent;
 use super::vectors::response_iu;
 use super::world::{self, Ends, World};
 use crate::frame;
@@ -91,15 +92,18 @@ fn beside(seed: u64) -> Result<u64, String> {
 const LOST: [Call; 2] = [Call::Timeout, Call::Cut];
 
 /// One command to its end; all that was answered and handed out, in order.
-struct Command {
+pub(super) struct Command {
     g: Rng,
+    /// K4: between the calls, reports of time that do not fail.
+    clock: Option<Rng>,
     write: bool,
-    initiator: Pair,
-    target: Pair,
-    responder: Pair,
-    calls: u64,
-    answers: Vec<(u8, u8, u64)>,
-    frames: Vec<Vec<u8>>,
+    pub(super) initiator: Pair,
+    pub(super) target: Pair,
+    pub(super) responder: Pair,
+    pub(super) calls: u64,
+    pub(super) answers: Vec<(u8, u8, u64)>,
+    pub(super) frames: Vec<Vec<u8>>,
+    pub(super) counted: u64,
 }
 
 /// What a frame meets: it arrives or not; its answer comes or not.
@@ -110,11 +114,12 @@ struct Fate {
 }
 
 impl Command {
-    fn new(t: Transfer, editions: [Edition; 2], seed: u64) -> Result<Command, String> {
+    pub(super) fn new(t: Transfer, editions: [Edition; 2], seed: u64, clock: Option<Rng>) -> Result<Command, String> {
         let mut g = Rng(seed);
         // The sending end of a read is the target.
         let ends = with(world::ends(t, TODAY), editions);
         let [initiator, target] = if t.write { ends } else { [ends[1], ends[0]] };
+        let initiator = Transfer { irt: !t.irt, ..initiator };
         let bytes: Vec<u8> = (0..t.count).map(|_| g.next() as u8).collect();
         let zeros = vec![0; bytes.len()];
         let room = 24 + t.size.max(28) as usize;
@@ -125,15 +130,38 @@ impl Command {
         };
         let [a, b] = recs.map(|(rec, data)| Pair::new(rec, data, room));
         let responder = Pair::new(Rec::Responder(Responder::default()), response_iu(6, 26), room);
-        let mut c = Command { g, write: t.write, initiator: a, target: b, responder, calls: 0, answers: vec![], frames: vec![] };
+        let (answers, frames) = (vec![], vec![]);
+        let mut c = Command { g, clock, write: t.write, initiator: a, target: b, responder, calls: 0, answers, frames, counted: 0 };
         c.call(|c| &mut c.initiator, Call::SetUp(initiator, 0))?;
         c.call(|c| &mut c.target, Call::SetUp(target, 0))?;
         c.call(|c| &mut c.responder, Call::SetUp(target, 26))?;
         Ok(c)
     }
 
+    /// K4: "Reports of time now stand in the delivery rule's lists, and it also assumes that none of them fails the transfer."
+    fn reports(&mut self) -> Result<(), String> {
+        let (Some(g), Rec::Target(t)) = (&mut self.clock, self.target.rec[0]) else { return Ok(()) };
+        let left = t.receiver.transfer.irt - t.elapsed;
+        let r = &t.receiver;
+        let span = t.state == STATE_READY && r.filled < r.end && !r.ended && left > 0;
+        let ms = if span { g.up_to(u32::from(left) - 1) as u16 } else { g.next() as u16 };
+        if g.one_in(2) {
+            return Ok(());
+        }
+        self.calls += 1;
+        self.counted += u64::from(span);
+        match self.target.call(&Call::Time(ms))?.unwrap() {
+            a if a == Answer::is(TAKEN) && span => Ok(()),
+            a if !span && (a == Answer::is(UNCHANGED) || a == Answer::refused(2)) => Ok(()),
+            a => Err(format!("a report of {ms}: {a:?} at both sides\n  {t:?}")),
+        }
+    }
+
     fn call(&mut self, end: fn(&mut Command) -> &mut Pair, call: Call) -> Result<Answer, String> {
         let a = end(self).call(&call)?.unwrap();
+        if !matches!(call, Call::SetUp(..)) {
+            self.reports()?;
+        }
         self.calls += 1;
         self.answers.push((a.what, a.number, a.frames));
         Ok(a)
@@ -212,7 +240,7 @@ impl Command {
     }
 
     /// The data, then the RESPONSE. If the data came whole.
-    fn run(&mut self) -> Result<bool, String> {
+    pub(super) fn run(&mut self) -> Result<bool, String> {
         let mut whole = true;
         if self.write {
             while let (true, Some(f)) = (whole, self.ask(|c| &mut c.target)?) {
@@ -247,6 +275,7 @@ fn command(seed: u64, seen: &mut Seen, whole: &mut [u64; 4]) -> Result<u64, Stri
         remote: 0xab_cdef,
         tag: 0x12,
         write: g.one_in(2),
+        irt: silent::value(&mut Rng(!seed ^ 4)),
         ..Transfer::default()
     };
     let mut first: Option<Command> = None;
@@ -254,7 +283,7 @@ fn command(seed: u64, seen: &mut Seen, whole: &mut [u64; 4]) -> Result<u64, Stri
     for (k, sas2) in PAIRINGS.into_iter().enumerate() {
         let editions = pairing(g, sas2);
         let told = |e| format!("command of seed {seed}, {editions:?}: {e}");
-        let mut c = Command::new(t, editions, seed).map_err(told)?;
+        let mut c = Command::new(t, editions, seed, (seed % 2 == 0).then(|| Rng(!seed))).map_err(told)?;
         whole[k] += u64::from(c.run().map_err(told)?);
         calls += c.calls;
         let target = editions[usize::from(t.write)];

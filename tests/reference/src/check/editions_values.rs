@@ -6,10 +6,10 @@ use super::vectors::{bytes, ready, response_iu, transfer};
 use crate::records::*;
 
 /// A record before its set-up, its data or IU, and a transfer that it takes.
-struct Role {
-    pair: Pair,
-    t: Transfer,
-    calls: u64,
+pub(super) struct Role {
+    pub(super) pair: Pair,
+    pub(super) t: Transfer,
+    pub(super) calls: u64,
 }
 
 fn role(rec: Rec, data: usize, write: bool) -> Role {
@@ -20,7 +20,7 @@ fn role(rec: Rec, data: usize, write: bool) -> Role {
 }
 
 /// Read target, read initiator, write initiator, write target, RESPONSE of a read and of a write.
-fn roles() -> [Role; 6] {
+pub(super) fn roles() -> [Role; 6] {
     let responder = |write| role(Rec::Responder(Responder::default()), 24, write);
     [
         role(Rec::Sender(Sender::default()), 4, false),
@@ -42,13 +42,15 @@ fn fresh(rec: &Rec, transfer: Transfer) -> Rec {
         Rec::Sender(_) => Rec::Sender(Sender { burst: Burst { end: 4, ..burst }, ..sender }),
         Rec::Receiver(_) => Rec::Receiver(Receiver { end: 4, ..receiver }),
         Rec::Writer(_) => Rec::Writer(Writer { sender, reached: 0, pending: false, taken: Burst { limit: 0, ..burst } }),
-        Rec::Target(_) => Rec::Target(Target { receiver, retries: 0, tptt: 0, under: 0, since: 0, state: STATE_NONE, stored: false }),
+        Rec::Target(_) => {
+            Rec::Target(Target { receiver, retries: 0, tptt: 0, under: 0, since: 0, state: STATE_NONE, stored: false, elapsed: 0 })
+        }
         Rec::Responder(_) => Rec::Responder(Responder { transfer, len: 24, retries: 0, unanswered: false, ended: false }),
     }
 }
 
 impl Role {
-    fn gets(&mut self, call: Call, due: Answer) -> Result<(), String> {
+    pub(super) fn gets(&mut self, call: Call, due: Answer) -> Result<(), String> {
         let a = self.pair.call(&call)?.unwrap();
         self.calls += 1;
         if a == due {
@@ -58,13 +60,13 @@ impl Role {
     }
 
     /// A set-up that is taken, over whatever was there.
-    fn set_up(&mut self, sas2: bool, value: u16) -> Result<(), String> {
+    pub(super) fn set_up(&mut self, sas2: bool, value: u16) -> Result<(), String> {
         let t = Transfer { sas2, value, ..self.t };
         self.gets(Call::SetUp(t, 24), Answer::is(READY))?;
         self.is(fresh(&self.pair.rec[1], t))
     }
 
-    fn is(&self, rec: Rec) -> Result<(), String> {
+    pub(super) fn is(&self, rec: Rec) -> Result<(), String> {
         if self.pair.rec[1] == rec {
             return Ok(());
         }

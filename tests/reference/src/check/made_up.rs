@@ -1,12 +1,13 @@
 //! Made-up records and bytes, with fields near and at their limits.
-use super::editions;
 use super::pair::Rec;
 use super::rng::Rng;
+use super::{editions, silent};
 use crate::records::*;
 
 pub fn transfer(g: &mut Rng, write: bool) -> Transfer {
-    // K7: from a generator of its own, so that the other numbers stay those of the seed.
+    // K7 and K4: from generators of their own, so that the other numbers stay those of the seed.
     let (sas2, value) = editions::any(&mut Rng(!g.0 ^ 7));
+    let irt = silent::value(&mut Rng(!g.0 ^ 4));
     let count = if g.one_in(12) { g.of(&[1, 16_777_215, 16_777_216]) } else { 1 + g.up_to(60) };
     let mut t = Transfer {
         write: write ^ g.one_in(60),
@@ -20,6 +21,7 @@ pub fn transfer(g: &mut Rng, write: bool) -> Transfer {
         tag: g.of(&[0, 0x12, 0xffff]),
         sas2,
         value,
+        irt,
     };
     if g.one_in(12) {
         match g.below(8) {
@@ -141,6 +143,7 @@ pub fn record(g: &mut Rng, kind: u64) -> Rec {
             let r = receiver(g, true);
             let since = if g.one_in(20) { g.of(&[17, 18, 0x7fff, 0xfffe, 0xffff]) } else { g.up_to(r.transfer.limit.min(15) + 1) as u16 };
             let state = if g.one_in(30) { g.of(&[4, 255]) } else { g.of(&[0, 1, 2, 3, 3, 3]) };
+            let elapsed = silent::sum(&mut Rng(!g.0 ^ 4), r.transfer.irt);
             Rec::Target(Target {
                 receiver: r,
                 state,
@@ -149,6 +152,7 @@ pub fn record(g: &mut Rng, kind: u64) -> Rec {
                 stored: bit(g),
                 under: g.of(&[0, 1, 2, 5, 16, 0xffff]),
                 since,
+                elapsed,
             })
         }
         _ => {

@@ -41,6 +41,8 @@ pub enum Call {
     Timeout,
     Cut,
     Loss,
+    /// K4: milliseconds since the last report.
+    Time(u16),
     /// Bytes that arrive, and the length of the data buffer.
     Frame(Vec<u8>, usize),
 }
@@ -75,6 +77,8 @@ pub fn reference(rec: &mut Rec, call: &Call, data: &mut [u8], out: &mut [u8]) ->
         (Rec::Target(r), Timeout) => write_target::ack_nak_timeout(r),
         (Rec::Target(r), Cut) => write_target::connection_lost(r),
         (Rec::Target(r), Loss) => write_target::nexus_lost(r),
+        (Rec::Target(r), Time(ms)) => write_target::time_reported(r, *ms),
+        (_, Time(_)) => return None,
         (Rec::Target(r), Frame(b, d)) => write_target::frame_received(r, b, &mut data[..*d]),
         (Rec::Responder(r), SetUp(t, n)) => response::set_up(r, *t, *n),
         (Rec::Responder(r), Next(d, o)) => response::next_frame(r, &data[..*d], &mut out[..*o]),
@@ -123,6 +127,8 @@ pub fn lib(rec: &mut Rec, call: &Call, sent: &mut [u8], data: &mut [u8], out: &m
             (Rec::Target(r), Timeout) => ssp_write_target_ack_nak_timeout(r),
             (Rec::Target(r), Cut) => ssp_write_target_connection_lost(r),
             (Rec::Target(r), Loss) => ssp_write_target_nexus_lost(r),
+            (Rec::Target(r), Time(ms)) => ssp_write_target_time_reported(r, *ms),
+            (_, Time(_)) => return None,
             (Rec::Target(r), Frame(_, n)) => ssp_write_target_frame_received(r, b, len, d, *n),
             (Rec::Responder(r), SetUp(t, n)) => ssp_response_set_up(r, *t, *n),
             (Rec::Responder(r), Next(n, m)) => ssp_response_next_frame(r, d, *n, o, *m),

@@ -1,10 +1,10 @@
 //! K3 with both ends together: each XFER_RDY is lost, damaged, or loses its answer, in every order up to the retry limit and past it, while
 //! the initiator hands out none, one or all of the frames it may. What the target hands out is always taken: no 25 comes up.
-use super::editions;
 use super::pair::{Call, Pair, Rec};
 use super::rng::Rng;
 use super::vectors::transfer;
 use super::world::ends;
+use super::{editions, silent};
 use crate::frame;
 use crate::records::*;
 
@@ -198,10 +198,11 @@ impl Tree {
 
 /// Every run of one transfer.
 fn runs(count: u32, window: u32, limit: u32, burst: u32, way: Way) -> Result<u64, String> {
-    // K7: any edition and value at each end.
+    // K7: any edition and value at each end. K4: any timeout there, and no report.
     let own = &mut Rng(u64::from(count << 8 | limit << 4 | u32::from(way.held)));
     let (sas2, value) = editions::drawn(own);
     let [here, there] = ends(Transfer { sas2, value, ..transfer(true, count, window, limit, burst) }, editions::drawn(own));
+    let [here, there] = [here, there].map(|t| Transfer { irt: silent::value(own), ..t });
     let data: Vec<u8> = (0..count).map(|i| 0x40 + i as u8).collect();
     let mut initiator = Pair::new(Rec::Writer(Writer::default()), data, 36);
     let mut target = Pair::new(Rec::Target(Target::default()), vec![0; count as usize], 36);

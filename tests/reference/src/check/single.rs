@@ -1,9 +1,8 @@
 //! Single calls of every entry point, with made-up records and any bytes.
-use super::editions;
 use super::forged::near;
-use super::made_up;
 use super::pair::{Call, Pair, Rec};
 use super::rng::Rng;
+use super::{editions, made_up, silent};
 use crate::frame;
 use crate::records::*;
 use crate::{ffi, records};
@@ -230,6 +229,17 @@ fn resent(g: &mut Rng, w: &Writer, mut pair: Pair) -> Result<u64, String> {
     Ok(2)
 }
 
+/// K4, likewise: a report of time, a call of any sort, and a report again.
+fn timed(g: &mut Rng, mut pair: Pair, room: usize) -> Result<u64, String> {
+    let mut calls = 0;
+    for report in [true, false, true] {
+        let Rec::Target(t) = pair.rec[0] else { unreachable!() };
+        let call = if report { Call::Time(silent::report(&t, 1 << 16 | g.next() as u32)) } else { call(g, &pair.rec[0], 3, room) };
+        calls += u64::from(pair.call(&call)?.is_some());
+    }
+    Ok(calls)
+}
+
 /// Calls compared, or the difference; each seed makes one record and three calls. The record before a call
 /// is told with it, so that one call is the shortest list.
 pub fn all(first: u64, n: u64) -> Result<u64, String> {
@@ -247,6 +257,9 @@ pub fn all(first: u64, n: u64) -> Result<u64, String> {
         let mut pair = Pair::new(rec, data, ROOM);
         if let Rec::Writer(w) = &rec {
             calls += resent(&mut Rng(!seed), w, pair.clone()).map_err(|e| format!("single call, seed {seed}, resent: {e}"))?;
+        }
+        if kind == 3 {
+            calls += timed(&mut Rng(!seed ^ 4), pair.clone(), ROOM).map_err(|e| format!("single call, seed {seed}, time: {e}"))?;
         }
         for _ in 0..3 {
             let call = call(g, &pair.rec[0], kind, ROOM);

@@ -12,7 +12,7 @@ const RESPONSE_LINK: [Event; 6] =
 const LOSSES: [Event; 3] = [Event::Loss(0), Event::Loss(1), Event::Loss(2)];
 
 /// Reads and writes of 1 to 3 frames, windows 1 to 3, limits 0 to 2; a write in one burst and in bursts of one frame. K7: the four pairings of
-/// editions in turn, with values at the edges.
+/// editions in turn, with values at the edges. K4: the timeout at the receiving end off, after one report of 1, after two, in turn.
 fn transfers() -> Vec<Ends> {
     let mut all = Vec::new();
     for write in [false, true] {
@@ -23,8 +23,10 @@ fn transfers() -> Vec<Ends> {
                 let n = all.len();
                 let edition = |sas2, n: usize| (sas2, if sas2 { EDGES[n % EDGES.len()] } else { 0 });
                 let (sas2, value) = edition(n & 1 != 0, n / 4 + 1);
-                let t = Transfer { write, count, size: 4, window, limit, burst, local: 1, remote: 2, tag: 3, sas2, value };
-                all.push(ends(t, edition(n & 2 != 0, n / 4 + 4)));
+                let irt = [65_535, 0, 1][n % 3];
+                let t = Transfer { write, count, size: 4, window, limit, burst, local: 1, remote: 2, tag: 3, sas2, value, irt };
+                let [here, there] = ends(t, edition(n & 2 != 0, n / 4 + 4));
+                all.push([here, Transfer { irt: [0, 1, 2][(n + n / 3) % 3], ..there }]);
             }
         }
     }
@@ -42,8 +44,12 @@ fn link_events(t: &Transfer) -> Vec<Event> {
 /// K3: repeats of another length, which end the initiator's record as a loss does, so that they lead to no further state.
 const REPEATS: [Event; 2] = [Event::Repeat(-1), Event::Repeat(1)];
 
+/// K4: a report at the target of a write.
+const TIME: [Event; 1] = [Event::Time(1)];
+
 fn all_events(t: &Transfer) -> Vec<Event> {
-    [&link_events(t)[..], &RESPONSE_LINK, &LOSSES, if t.write { &REPEATS } else { &[] }].concat()
+    let more: [&[Event]; 2] = if t.write { [&REPEATS, &TIME] } else { [&[]; 2] };
+    [&link_events(t)[..], &RESPONSE_LINK, &LOSSES, more[0], more[1]].concat()
 }
 
 /// One XFER_RDY, taken and acknowledged.
@@ -234,8 +240,8 @@ impl Walk {
     }
 }
 
-/// Each list by itself. Link events from set-up, in a write one less and after its first XFER_RDY too, there also with repeats
-/// of another length, three less; all events, three less; the RESPONSE's own events and loss, one less.
+/// Each list by itself. Link events from set-up, in a write one less and after its first XFER_RDY too, there also with reports of time,
+/// two less, and with repeats of another length, three less; all events, three less; the RESPONSE's own events and loss, one less.
 pub fn each(depth: usize) -> Result<u64, String> {
     let mut walk = Walk::default();
     let less = |n| depth.saturating_sub(n);
@@ -245,6 +251,7 @@ pub fn each(depth: usize) -> Result<u64, String> {
         let mut plan = vec![(vec![], link_events(&t), link), (vec![], all_events(&t), less(3))];
         if t.write {
             plan.push((READY.to_vec(), link_events(&t), link));
+            plan.push((READY.to_vec(), [&TIME[..], &link_events(&t)].concat(), less(2)));
             plan.push((READY.to_vec(), [&REPEATS[..], &link_events(&t)].concat(), less(3)));
         }
         if t.count == 4 && t.window == 1 {

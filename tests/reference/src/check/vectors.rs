@@ -13,7 +13,8 @@ pub struct Script {
 }
 
 pub fn transfer(write: bool, count: u32, window: u32, limit: u32, burst: u32) -> Transfer {
-    Transfer { write, count, size: 4, window, limit, burst, local: 0xab_cdef, remote: 0x12_3456, tag: 0x12, sas2: false, value: 0 }
+    let (local, remote) = (0xab_cdef, 0x12_3456);
+    Transfer { write, count, size: 4, window, limit, burst, local, remote, tag: 0x12, sas2: false, value: 0, irt: 0 }
 }
 
 impl Script {

@@ -1,8 +1,8 @@
 //! Both ends of one command over a link with faults, library and reference side by side.
-use super::editions;
 use super::forged::{forged, repeat};
 use super::pair::{Call, Pair, Rec};
 use super::rng::Rng;
+use super::{editions, silent};
 use crate::records::*;
 use std::collections::VecDeque;
 
@@ -39,6 +39,8 @@ pub enum Event {
     /// Answers out of turn, short buffers, a nexus loss.
     Stray(u32),
     Loss(u32),
+    /// K4: a report of time at the target of a write, as `silent::report` reads it.
+    Time(u32),
 }
 
 pub const LINK: [Event; 8] =
@@ -275,6 +277,10 @@ impl World {
                 let end = [&mut self.sender, &mut self.receiver, &mut self.responder].into_iter().nth(k as usize % 3).unwrap();
                 one(end, Call::Loss, c)
             }
+            Event::Time(k) => {
+                let Rec::Target(t) = self.receiver.rec[0] else { return Ok(false) };
+                one(&mut self.receiver, Call::Time(silent::report(&t, k)), c)
+            }
         }
     }
 }
@@ -282,9 +288,11 @@ impl World {
 /// The run of one seed: its two ends and its events.
 pub fn from_seed(seed: u64) -> (Ends, Vec<Event>) {
     let g = &mut Rng(seed);
-    // K7: from a generator of its own, so that the other numbers stay those of the seed.
+    // K7 and K4: from generators of their own, so that the other numbers stay those of the seed.
     let own = &mut Rng(!seed ^ 7);
     let ((sas2, value), far) = (editions::drawn(own), editions::drawn(own));
+    let clock = &mut Rng(!seed ^ 4);
+    let (irt, theirs, often) = (silent::value(clock), silent::value(clock), clock.of(&[3, 8, 30]));
     let write = g.below(3) > 0;
     let count = if g.one_in(40) { 2000 } else { 1 + g.up_to(47) };
     let t = Transfer {
@@ -299,6 +307,7 @@ pub fn from_seed(seed: u64) -> (Ends, Vec<Event>) {
         tag: 0x12,
         sas2,
         value,
+        irt,
     };
     let faults = g.of(&[4, 12, 40, 200]);
     let wild = g.of(&[10, 60, 2000]);
@@ -325,8 +334,12 @@ pub fn from_seed(seed: u64) -> (Ends, Vec<Event>) {
         } else {
             g.of(&[LINK[0], LINK[0], LINK[1], LINK[1], LINK[4], LINK[4]])
         });
+        if write && clock.one_in(often) {
+            list.push(Event::Time(1 << 16 | clock.next() as u32));
+        }
     }
-    (ends(t, far), list)
+    let [here, there] = ends(t, far);
+    ([here, Transfer { irt: theirs, ..there }], list)
 }
 
 /// Runs a list; at a difference, how many events it took and what differs.

@@ -5,7 +5,7 @@ use Rattle.target.proofs.record.holds.Tie as tie
 
 returns : tie.Need-returns
 unfolding holdsOf tests
-returns c = simp (c .before .before .before .before .before .before .before .holds .ensures)
+returns c = simp (c .before .before .before .before .before .before .before .before .before .holds .ensures)
 
 pub holds-spec : {M : Type 1} → statement M
 holds-spec = tie.close (tie.spec (λ c κs. search needs) returns)
