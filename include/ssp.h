@@ -24,8 +24,9 @@
  *   - No two buffers of one call overlap, and no buffer overlaps the record.
  *   - A bool holds 0 or 1.
  *   - One thread at a time uses a record. Nobody else uses the buffers of a call while it runs.
- *   - Frames and confirmations are passed in the order of their arrival. An ACK names no frame and no command: pass it to the record whose
- *     frames are out.
+ *   - Frames and confirmations are passed in the order of their arrival. An ACK names no frame, no read and no command: pass it to the record
+ *     whose frames are out.
+ *   - Both ports have the same start and count of a read. The ranges of one command's reads do not overlap.
  *   - A timeout or a cut closes the connection. After it drop every frame and every confirmation that was still on the way, and report the cut
  *     to the port at the other end where its role has that call. A late ACK would count for a frame that was sent again: data could be reported
  *     delivered that never arrived.
@@ -45,12 +46,13 @@ extern "C" {
 
 /* ---- A read at the target. ------------------------------------------------------------------------------------------------------------- */
 
-/* Sets up a read: one burst from 0 to the byte count, no frame handed out yet.
+/* Sets up a read: one burst from transfer.start to transfer.start + transfer.count, no frame handed out yet.
  * Answers SSP_BAD_REQUEST (a limit is broken, or transfer.write is true); SSP_READY. */
 ssp_answer ssp_read_target_set_up(ssp_read_target *record, ssp_transfer transfer);
 
-/* Writes the next DATA frame to `out`. Its data are transfer.size bytes of the caller-owned buffer `data` from the next offset on, or what
- * remains. Its target port transfer tag is transfer.value.
+/* Writes the next DATA frame to `out`. Its data offset is the next offset. Its data are transfer.size bytes, or what remains. They begin at byte
+ * `next` - transfer.start of the caller-owned buffer `data`, which holds this read's transfer.count bytes alone. Its target port transfer tag is
+ * transfer.value.
  * Answers SSP_BAD_REQUEST (not in range, or data_len is not transfer.count), SSP_TRANSFER_ENDED; SSP_WAIT if a NAK is pending, the window is
  * full or the next offset is the end; SSP_FRAME_SPACE_SHORT; SSP_FRAME. */
 ssp_answer ssp_read_target_next_frame(ssp_read_target *record, const uint8_t *data, size_t data_len, uint8_t *out, size_t out_len);
@@ -85,12 +87,17 @@ ssp_answer ssp_read_target_frame_received(ssp_read_target *record, const uint8_t
 
 /* ---- A read at the initiator. ---------------------------------------------------------------------------------------------------------- */
 
-/* Sets up the receiving end of a read. Answers SSP_BAD_REQUEST (a limit is broken, or transfer.write is true); SSP_READY. */
+/* Sets up the receiving end of a read: one burst from transfer.start to transfer.start + transfer.count, nothing stored yet.
+ * Answers SSP_BAD_REQUEST (a limit is broken, or transfer.write is true); SSP_READY. */
 ssp_answer ssp_read_initiator_set_up(ssp_read_initiator *record, ssp_transfer transfer);
 
-/* A frame arrived, any bytes. DATA goes to its place in the caller-owned buffer `data`. The target port transfer tag is ignored.
- * Answers SSP_BAD_REQUEST (not in range, or data_len is not transfer.count), SSP_TRANSFER_ENDED, SSP_MALFORMED_FRAME, SSP_UNEXPECTED_FRAME_TYPE,
- * SSP_WRONG_ADDRESS, SSP_UNKNOWN_TAG; then
+/* A frame arrived, any bytes. DATA goes to its offset in the caller-owned buffer `data`. No byte below transfer.start or from transfer.start +
+ * transfer.count on changes, so several reads of one command can share the buffer. Set up a record for each of them and pass each frame to the
+ * record of its own read; the library does not choose. At another read's record DATA is SSP_DISCARDED once all is filled, so it is lost though the
+ * target reports its delivery; before that it is SSP_DATA_OFFSET_ERROR, which ends the record. A RESPONSE goes to one of the records. The target
+ * port transfer tag is ignored.
+ * Answers SSP_BAD_REQUEST (not in range, or data_len is below transfer.start + transfer.count), SSP_TRANSFER_ENDED, SSP_MALFORMED_FRAME,
+ * SSP_UNEXPECTED_FRAME_TYPE, SSP_WRONG_ADDRESS, SSP_UNKNOWN_TAG; then
  *   DATA: SSP_DISCARDED (all is filled), SSP_DATA_OFFSET_ERROR, SSP_TOO_MUCH_DATA, SSP_INCORRECT_DATA_LENGTH; SSP_DISCARDED (retries on, CDP
  *     zero, and another than the expected offset or waiting for CDP one), SSP_STORED or SSP_RECEIVED. SSP_DATA_OFFSET_ERROR: the offset is
  *     outside the burst; or, retries off, not the expected one; or, retries on and CDP one, above the filled mark;
@@ -187,14 +194,15 @@ ssp_answer ssp_write_target_time_reported(ssp_write_target *record, uint16_t mil
 
 /* A frame arrived, any bytes. DATA goes to its place in the caller-owned buffer `data`.
  * Answers SSP_BAD_REQUEST (not in range, or data_len is not receiver.transfer.count), SSP_TRANSFER_ENDED, SSP_MALFORMED_FRAME,
- * SSP_UNEXPECTED_FRAME_TYPE, SSP_WRONG_ADDRESS, SSP_UNKNOWN_TAG (the tag, then the target port transfer tag; so DATA before the first XFER_RDY); SSP_DISCARDED (the XFER_RDY is not
- * acknowledged yet, or the burst is filled); SSP_DATA_OFFSET_ERROR, SSP_TOO_MUCH_DATA, SSP_INCORRECT_DATA_LENGTH; SSP_DISCARDED, SSP_STORED, or
- * SSP_RECEIVED (the burst is filled: ask for the next XFER_RDY). */
+ * SSP_UNEXPECTED_FRAME_TYPE, SSP_WRONG_ADDRESS, SSP_UNKNOWN_TAG (the tag, then the target port transfer tag; so DATA before the first XFER_RDY);
+ * SSP_DISCARDED (the XFER_RDY is not acknowledged yet, or the burst is filled); SSP_DATA_OFFSET_ERROR, SSP_TOO_MUCH_DATA,
+ * SSP_INCORRECT_DATA_LENGTH; SSP_DISCARDED, SSP_STORED, or SSP_RECEIVED (the burst is filled: ask for the next XFER_RDY). */
 ssp_answer ssp_write_target_frame_received(ssp_write_target *record, const uint8_t *bytes, size_t bytes_len, uint8_t *data, size_t data_len);
 
 /* ---- RESPONSE at the target. -----------------------------------------------------------------------------------------------------------
- * It has a record of its own. Set it up with the command's transfer, so that it carries the same value under SAS-2. Ask for it only after all
- * data were delivered or received, or the transfer failed. No call tests either. Keep the IU until its ACK: a resend needs it again. */
+ * It has a record of its own. Set it up with the command's transfer (that of any of its reads, where there are several), so that it carries the
+ * same value under SAS-2. Ask for it only after all data were delivered or received, or the transfer failed. No call tests either. Keep the IU
+ * until its ACK: a resend needs it again. */
 
 /* Sets up a RESPONSE with an IU of len bytes.
  * Answers SSP_BAD_REQUEST (a limit is broken, or len is not 24 to 1,024; the direction may be either); SSP_READY. */

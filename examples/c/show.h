@@ -1,4 +1,4 @@
-/* Text for the answers of calls, for read.c, write.c and silent.c. */
+/* Text for the answers of calls, for read.c, write.c, silent.c and parts.c. */
 #ifndef SHOW_H
 #define SHOW_H
 

@@ -8,8 +8,10 @@
 extern "C" {
 #endif
 
-/* Defaults that ssp_read_transfer and ssp_write_transfer set. Change a field afterwards: `transfer.window = 3;`. Both ports need the same
- * size, window and retry limit. The edition is SAS-1.1; ssp_sas2 changes it. The Initiator Response Timeout is off: irt is 0. */
+/* Defaults that ssp_read_transfer and ssp_write_transfer set. Change a field afterwards: `transfer.window = 3;`. Both ports need the same count,
+ * size, window, retry limit and start: else the initiator can discard DATA or fail while the target reports SSP_DELIVERED. The edition is
+ * SAS-1.1; ssp_sas2 changes it. The Initiator Response Timeout is off: irt is 0. A read begins at the first byte of the initiator's buffer:
+ * start is 0. */
 enum ssp_default {
     SSP_DEFAULT_SIZE = 1024,    /* the most that a frame holds, so the fewest frames */
     SSP_DEFAULT_WINDOW = 8,     /* frames go out while confirmations of earlier ones are due */
@@ -17,7 +19,8 @@ enum ssp_default {
 };
 
 /* A read of count bytes at the port with the hashed address local. A set-up takes it if count is 1 to 16,777,216 and both addresses
- * fit in 24 bits. burst, which a read does not use but whose limit holds, is count. */
+ * fit in 24 bits. To begin further in, set `transfer.start` at both ports; start + count is at most 16,777,216. Pass each read's
+ * own count: burst would be above a smaller one that is set later. burst, which a read does not use but whose limit holds, is count. */
 static inline ssp_transfer ssp_read_transfer(uint32_t count, uint32_t local, uint32_t remote, uint16_t tag) {
     ssp_transfer transfer = SSP_ZERO;
     transfer.count = count;
@@ -32,6 +35,7 @@ static inline ssp_transfer ssp_read_transfer(uint32_t count, uint32_t local, uin
     transfer.sas2 = false;
     transfer.value = 0;
     transfer.irt = 0;
+    transfer.start = 0;
     return transfer;
 }
 

@@ -32,7 +32,7 @@ SSP_SIZE(ssp_part, 16);
 SSP_AT(ssp_part, at, 0);
 SSP_AT(ssp_part, len, 8);
 
-SSP_SIZE(ssp_transfer, 36);
+SSP_SIZE(ssp_transfer, 40);
 SSP_AT(ssp_transfer, count, 0);
 SSP_AT(ssp_transfer, size, 4);
 SSP_AT(ssp_transfer, window, 8);
@@ -45,6 +45,7 @@ SSP_AT(ssp_transfer, write, 30);
 SSP_AT(ssp_transfer, sas2, 31);
 SSP_AT(ssp_transfer, value, 32);
 SSP_AT(ssp_transfer, irt, 34);
+SSP_AT(ssp_transfer, start, 36);
 
 SSP_SIZE(ssp_burst, 16);
 SSP_AT(ssp_burst, base, 0);
@@ -53,54 +54,54 @@ SSP_AT(ssp_burst, limit, 8);
 SSP_AT(ssp_burst, tptt, 12);
 
 #define SSP_SENDER(record)          \
-    SSP_SIZE(record, 80);           \
+    SSP_SIZE(record, 88);           \
     SSP_AT(record, transfer, 0);    \
-    SSP_AT(record, burst, 36);      \
-    SSP_AT(record, next, 52);       \
-    SSP_AT(record, balance, 56);    \
-    SSP_AT(record, unanswered, 60); \
-    SSP_AT(record, nak, 64);        \
-    SSP_AT(record, cdp, 65);        \
-    SSP_AT(record, ended, 66);      \
-    SSP_AT(record, retries, 68);    \
-    SSP_AT(record, frames, 72)
+    SSP_AT(record, burst, 40);      \
+    SSP_AT(record, next, 56);       \
+    SSP_AT(record, balance, 60);    \
+    SSP_AT(record, unanswered, 64); \
+    SSP_AT(record, nak, 68);        \
+    SSP_AT(record, cdp, 69);        \
+    SSP_AT(record, ended, 70);      \
+    SSP_AT(record, retries, 72);    \
+    SSP_AT(record, frames, 80)
 SSP_SENDER(ssp_read_target);
 SSP_SENDER(ssp_sender);
 
 #define SSP_RECEIVER(record)      \
-    SSP_SIZE(record, 56);         \
+    SSP_SIZE(record, 60);         \
     SSP_AT(record, transfer, 0);  \
-    SSP_AT(record, base, 36);     \
-    SSP_AT(record, end, 40);      \
-    SSP_AT(record, expected, 44); \
-    SSP_AT(record, filled, 48);   \
-    SSP_AT(record, waiting, 52);  \
-    SSP_AT(record, ended, 53)
+    SSP_AT(record, base, 40);     \
+    SSP_AT(record, end, 44);      \
+    SSP_AT(record, expected, 48); \
+    SSP_AT(record, filled, 52);   \
+    SSP_AT(record, waiting, 56);  \
+    SSP_AT(record, ended, 57)
 SSP_RECEIVER(ssp_read_initiator);
 SSP_RECEIVER(ssp_receiver);
 
-SSP_SIZE(ssp_write_initiator, 104);
+SSP_SIZE(ssp_write_initiator, 112);
 SSP_AT(ssp_write_initiator, sender, 0);
-SSP_AT(ssp_write_initiator, reached, 80);
-SSP_AT(ssp_write_initiator, pending, 84);
-SSP_AT(ssp_write_initiator, taken, 88);
+SSP_AT(ssp_write_initiator, reached, 88);
+SSP_AT(ssp_write_initiator, pending, 92);
+SSP_AT(ssp_write_initiator, taken, 96);
 
-SSP_SIZE(ssp_write_target, 72);
+SSP_SIZE(ssp_write_target, 76);
 SSP_AT(ssp_write_target, receiver, 0);
-SSP_AT(ssp_write_target, retries, 56);
-SSP_AT(ssp_write_target, tptt, 60);
-SSP_AT(ssp_write_target, under, 62);
-SSP_AT(ssp_write_target, since, 64);
-SSP_AT(ssp_write_target, state, 66);
-SSP_AT(ssp_write_target, stored, 67);
-SSP_AT(ssp_write_target, elapsed, 68);
+SSP_AT(ssp_write_target, retries, 60);
+SSP_AT(ssp_write_target, tptt, 64);
+SSP_AT(ssp_write_target, under, 66);
+SSP_AT(ssp_write_target, since, 68);
+SSP_AT(ssp_write_target, state, 70);
+SSP_AT(ssp_write_target, stored, 71);
+SSP_AT(ssp_write_target, elapsed, 72);
 
-SSP_SIZE(ssp_response, 48);
+SSP_SIZE(ssp_response, 52);
 SSP_AT(ssp_response, transfer, 0);
-SSP_AT(ssp_response, len, 36);
-SSP_AT(ssp_response, retries, 40);
-SSP_AT(ssp_response, unanswered, 44);
-SSP_AT(ssp_response, ended, 45);
+SSP_AT(ssp_response, len, 40);
+SSP_AT(ssp_response, retries, 44);
+SSP_AT(ssp_response, unanswered, 48);
+SSP_AT(ssp_response, ended, 49);
 
 SSP_SIZE(ssp_header, 24);
 SSP_AT(ssp_header, type, 0);

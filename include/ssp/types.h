@@ -90,7 +90,7 @@ enum ssp_state {
 
 /* Greatest and least values of the fields below, and lengths of frames. */
 enum ssp_limit {
-    SSP_COUNT_MOST = 16777216,
+    SSP_COUNT_MOST = 16777216, /* also the most of start + count */
     SSP_SIZE_LEAST = 4,
     SSP_SIZE_MOST = 1024,
     SSP_WINDOW_MOST = 64,
@@ -127,7 +127,10 @@ typedef struct ssp_part {
 /* What both ports of a command are set up with. It never changes. The other port has local and remote the other way round. sas2 and value may
  * differ at the two ports: a receiving port ignores the TPTT (target port transfer tag) of read DATA and RESPONSE. So may irt: every record holds
  * it, only ssp_write_target uses it. "The limits" are the ranges at these fields. ssp_read_transfer and ssp_write_transfer return a transfer with
- * defaults. */
+ * defaults.
+ * A read fills count bytes of the initiator's buffer, from start up to start + count; the buffer is at least start + count bytes long. The target's
+ * buffer holds those count bytes alone: its byte i goes to start + i. In a read every offset and mark of either record (base, end, next, balance,
+ * expected, filled, the DATA frame's offset) is a place in the initiator's buffer. ssp_answer.start is something else: the place of an IU. */
 typedef struct ssp_transfer {
     uint32_t count;  /* byte count: 1 to 16,777,216 */
     uint32_t size;   /* data bytes per frame: 4 to 1,024, a multiple of four */
@@ -141,6 +144,7 @@ typedef struct ssp_transfer {
     bool sas2;      /* the edition: true for SAS-2, false for SAS-1.1 */
     uint16_t value; /* the TPTT of every read DATA frame and RESPONSE of the command; under SAS-1.1 it must be 0 */
     uint16_t irt;   /* Initiator Response Timeout in milliseconds: 1 to 65,535; 0 turns it off; C cuts 65,536 to 0 */
+    uint32_t start; /* where the read begins in the initiator's buffer; start + count is at most 16,777,216; in a write it must be 0 */
 } ssp_transfer;
 
 /* What one XFER_RDY asks for, or a whole read. */
@@ -152,7 +156,8 @@ typedef struct ssp_burst {
 } ssp_burst;
 
 /* The target in a read command: a sending port.
- * In range: the limits hold; transfer.write is false; burst.base <= balance <= next <= burst.end <= transfer.count;
+ * In range: the limits hold; transfer.write is false;
+ * transfer.start <= burst.base <= balance <= next <= burst.end <= transfer.start + transfer.count;
  * unanswered <= transfer.window; retries <= burst.limit <= transfer.limit; frames is below 2 to the power 60. */
 typedef struct ssp_read_target {
     ssp_transfer transfer;
@@ -168,7 +173,8 @@ typedef struct ssp_read_target {
 } ssp_read_target;
 
 /* The initiator in a read command: a receiving port.
- * In range: the limits hold; transfer.write is false; base <= expected <= filled <= end <= transfer.count. */
+ * In range: the limits hold; transfer.write is false;
+ * transfer.start <= base <= expected <= filled <= end <= transfer.start + transfer.count. */
 typedef struct ssp_read_initiator {
     ssp_transfer transfer;
     uint32_t base; /* the burst */

@@ -44,10 +44,10 @@ for std in c99 c++11; do
 done
 
 # ---- a header of another interface does not link: the one before, which programs were compiled against, and the next ----
-for other in 2 4; do
+for other in 3 5; do
   mkdir -- "$tmp/interface_$other"
   cp -R -- "$root/include/." "$tmp/interface_$other/"
-  sed -i "s/ssp_interface_3/ssp_interface_$other/" "$tmp/interface_$other/ssp/version.h"
+  sed -i "s/ssp_interface_4/ssp_interface_$other/" "$tmp/interface_$other/ssp/version.h"
 done
 printf '#include "ssp.h"\nint main(void) { ssp_response r = SSP_ZERO; return ssp_response_nexus_lost(&r).number == SSP_BAD_REQUEST ? 0 : 1; }\n' >"$tmp/calls.c"
 printf '#include "ssp.h"\nint main(void) { return 0; }\n' >"$tmp/no_calls.c"
@@ -60,7 +60,7 @@ for std in c99 c++11; do
       if tries "$source as $std $options is linked" "${compile[@]}" "${option[@]}" "${cflags[@]}" -I"$root/include" "${link[@]}"; then
         tries "$source as $std $options" timeout 10 "$tmp/linked" || true
       fi
-      for other in 2 4; do
+      for other in 3 5; do
         stops "$source as $std $options, header of interface $other" "ssp_interface_$other" "${compile[@]}" "${option[@]}" "${cflags[@]}" -I"$tmp/interface_$other" "${link[@]}"
       done
     done

@@ -25,7 +25,7 @@ static void version(void) {
     TRY(SSP_VERSION == SSP_VERSION_MAJOR * 10000 + SSP_VERSION_MINOR * 100 + SSP_VERSION_PATCH);
     TRY(SSP_VERSION_MINOR < 100 && SSP_VERSION_PATCH < 100);
     TRY(ssp_version() == SSP_VERSION);
-    TRY(SSP_VERSION == 10200 && ssp_interface_3() == 3);
+    TRY(SSP_VERSION == 10300 && ssp_interface_4() == 4);
 }
 
 /* ---- names ---- */
@@ -109,7 +109,7 @@ static int taken(ssp_transfer t) {
 static void transfers(void) {
     ssp_transfer t = ssp_read_transfer(46, 0x123456, 0xABCDEF, 0x0012);
     TRY(t.count == 46 && t.local == 0x123456 && t.remote == 0xABCDEF && t.tag == 0x0012 && !t.write);
-    TRY(t.size == 1024 && t.window == 8 && t.limit == 3 && t.burst == 46 && !t.sas2 && t.value == 0 && t.irt == 0);
+    TRY(t.size == 1024 && t.window == 8 && t.limit == 3 && t.burst == 46 && !t.sas2 && t.value == 0 && t.irt == 0 && t.start == 0);
     TRY(SSP_DEFAULT_SIZE == 1024 && SSP_DEFAULT_WINDOW == 8 && SSP_DEFAULT_RETRY_LIMIT == 3);
     TRY(taken(t) == 102);
     t.burst = 0; /* what a read has to be kept from */
@@ -121,7 +121,7 @@ static void transfers(void) {
 
     t = ssp_write_transfer(24, 0x123456, 0xABCDEF, 0x0034, 12);
     TRY(t.count == 24 && t.local == 0x123456 && t.remote == 0xABCDEF && t.tag == 0x0034 && t.write);
-    TRY(t.size == 1024 && t.window == 8 && t.limit == 3 && t.burst == 12 && !t.sas2 && t.value == 0 && t.irt == 0);
+    TRY(t.size == 1024 && t.window == 8 && t.limit == 3 && t.burst == 12 && !t.sas2 && t.value == 0 && t.irt == 0 && t.start == 0);
     TRY(taken(t) == 120);
     TRY(taken(ssp_write_transfer(1, 0, 0, 0, 1)) == 120);
     TRY(taken(ssp_write_transfer(SSP_COUNT_MOST, SSP_ADDRESS_MOST, SSP_ADDRESS_MOST, 0xFFFF, SSP_COUNT_MOST)) == 120);
@@ -135,6 +135,18 @@ static void transfers(void) {
     t = ssp_read_transfer(46, 0x123456, 0xABCDEF, 0x0012);
     t.irt = 0xFFFF;
     TRY(taken(t) == 102);
+
+    /* a start: in a read up to 16,777,216 less the count, in a write only 0; ssp_sas2 leaves it */
+    t = ssp_read_transfer(46, 0x123456, 0xABCDEF, 0x0012);
+    t.start = 16777170;
+    TRY(taken(t) == 102 && ssp_sas2(t, 7).start == 16777170 && taken(ssp_sas2(t, 7)) == 102);
+    t.start = 16777171;
+    TRY(taken(t) == 0);
+    t.start = 0xFFFFFFFF;
+    TRY(taken(t) == 0);
+    t = ssp_write_transfer(24, 0x123456, 0xABCDEF, 0x0034, 12);
+    t.start = 1;
+    TRY(taken(t) == 0 && ssp_sas2(t, 7).start == 1 && taken(ssp_sas2(t, 7)) == 0);
 }
 
 /* ---- the edition ---- */

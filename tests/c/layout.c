@@ -3,7 +3,7 @@
  * apart. RESPONSEs of every kind are opened, each from bytes that stand in layout_response.h. What takes frames is tried with each TLR CONTROL
  * in them: the answers are the same. All records are tried under both editions, with several values and with several TPTTs in read DATA and
  * RESPONSEs that arrive; what only an edition changes is in layout_edition.h. All are tried with several Initiator Response Timeouts too; reports of
- * time are in layout_time.h. Prints one line. */
+ * time are in layout_time.h. Reads that start further in are in layout_start.h. Prints one line. */
 #include "layout.h"
 #include "layout_read.h"
 #include "layout_write.h"
@@ -11,6 +11,7 @@
 #include "layout_response.h"
 #include "layout_edition.h"
 #include "layout_time.h"
+#include "layout_start.h"
 
 int main(void) {
     unsigned i;
@@ -40,6 +41,7 @@ int main(void) {
     writer_steps();
     edition_fields();
     time_fields();
+    start_fields();
     if (wrong > 0) {
         printf("%u of %u checks failed\n", wrong, checks);
         return 1;

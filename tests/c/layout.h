@@ -64,7 +64,7 @@ static int says(ssp_answer a, int what) { return is(a, what, 0, 0, 0, 0); }
 static int same_transfer(ssp_transfer a, ssp_transfer b) {
     return a.write == b.write && a.count == b.count && a.size == b.size && a.window == b.window && a.limit == b.limit &&
            a.burst == b.burst && a.local == b.local && a.remote == b.remote && a.tag == b.tag && a.sas2 == b.sas2 &&
-           a.value == b.value && a.irt == b.irt;
+           a.value == b.value && a.irt == b.irt && a.start == b.start;
 }
 static int same_burst(ssp_burst a, ssp_burst b) {
     return a.base == b.base && a.end == b.end && a.tptt == b.tptt && a.limit == b.limit;

@@ -51,7 +51,7 @@ static int read_initiator_refuses(ssp_read_initiator r, const uint8_t *frame, si
     ssp_read_initiator r0 = r;
     int ok = 1;
     touchable();
-    EACH(ssp_read_initiator_frame_received(&r, frame, len, room, COUNT), same_receiver(r, r0));
+    EACH(ssp_read_initiator_frame_received(&r, frame, len, room, MOST), same_receiver(r, r0)); /* longer than any read here */
     EACH(ssp_read_initiator_nexus_lost(&r), same_receiver(r, r0));
     return ok;
 }

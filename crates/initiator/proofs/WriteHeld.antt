@@ -5,6 +5,7 @@ use mathlib.Core.Path.{_≡_}
 use native.Mathlib.Omega.{arith}
 use borrow.Author.Tests.{leb-true, eqb-true, le-leb, eq-eqb}
 use Rattle.status.proofs.Choose.{each}
+use Rattle.transfer.proofs.Bounds.{write-start}
 use Rattle.sender_steps.specs.Record as sender
 use Rattle.sender_steps.proofs.Held as core
 use Rattle.initiator.specs.WriteRecord.{tests, holdsOf}
@@ -23,13 +24,16 @@ pub record Held (w : Writer) : Type 0 where
   pub holds : sender.holdsOf (w .sender) ≡ true
   pub core : core.Held (w .sender)
   pub write : w .sender .transfer .write ≡ true
+  -- a write starts at 0
+  pub from-0 : w .sender .transfer .start ≡ 0
   pub marks : Marks w
 
 pub held : (w : Writer) → holdsOf w ≡ true → Held w
 unfolding holdsOf tests
 held w e =
     let h = each (tests w) e in
-    record { holds = h .0; core = core.held (w .sender) (h .0); write = h .1 .0; marks = omega (arith, leb-true) }
+    let c = core.held (w .sender) (h .0) in
+    record { holds = h .0; core = c; write = h .1 .0; from-0 = write-start _ (c .limits-hold) (h .1 .0); marks = omega (arith, leb-true) }
 
 pub holds-again : (w : Writer) → sender.holdsOf (w .sender) ≡ true → w .sender .transfer .write ≡ true → Marks w → holdsOf w ≡ true
 unfolding holdsOf tests

@@ -38,7 +38,7 @@ Kept x = holdsOf (x .left) ≡ true
 pub begins-well : (w : Writer) (b : Burst) → holdsOf w ≡ true → b .base ≤ b .end → b .end ≤ w .sender .transfer .count → b .limit ≤ w .sender .transfer .limit → holdsOf (beginsOf (w .sender .transfer) b) ≡ true
 begins-well w b h p q r =
     let k = held w h in
-    holds-again (beginsOf (w .sender .transfer) b) (begins-holds (w .sender .transfer) b (k .core .limits-hold) p q r) (k .write) (omega arith)
+    holds-again (beginsOf (w .sender .transfer) b) (begins-holds (w .sender .transfer) b (k .core .limits-hold) (omega (arith, k .from-0)) p (omega (arith, k .from-0)) r) (k .write) (omega arith)
 
 pub starts-well : (w : Writer) → holdsOf w ≡ true → holdsOf (startsOf w) ≡ true
 starts-well w h = let m = held w h .marks in begins-well w (w .taken) h (m .base-most) (m .end-most) (m .limit-most)

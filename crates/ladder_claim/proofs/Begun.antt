@@ -2,7 +2,7 @@
 -- where retries are on (`read-starts`, `write-starts`). The four records are well-formed (`read-sender-holds` and so on).
 use Prim.Native.Nat.{ℕ, _+_, _-_, _%_, _^_, min, _≤_, _<_}
 use mathlib.Core.List.{List}
-use mathlib.Core.Bool.{Bool, true, false}
+use mathlib.Core.Bool.{Bool, true, false, not, _||_}
 use mathlib.Core.Path.{_≡_, refl, sym, ap, subst, subst₂, _∙_}
 use native.Mathlib.Omega.{arith}
 use lib.Dec.{leb, ltb}
@@ -12,7 +12,7 @@ use Rattle.status.specs.Pick.{pick}
 use Rattle.status.specs.Answer.{Word, Taking, Said, Left, _saying_}
 use Rattle.status.specs.Result.{Result, granted}
 use Rattle.status.proofs.Opened.{open-entry, open-confirmable}
-use Rattle.transfer.specs.Limits.{limits, limitsHold}
+use Rattle.transfer.specs.Limits.{past, limits, limitsHold}
 use Rattle.transfer.specs.declared.Transfer.{Transfer}
 use Rattle.frame.specs.Format.{XFER-RDY, encode}
 use Rattle.frame.specs.Write.{over, hands}
@@ -27,6 +27,7 @@ use Rattle.sender_steps.specs.declared.types.Sender.{Sender}
 use Rattle.sender.proofs.Kept as sender-kept
 use Rattle.receiver_steps.specs.Record as receiver
 use Rattle.receiver_steps.specs.declared.types.Receiver.{Receiver}
+use Rattle.receiver.specs.Record as receiver-set-up
 use Rattle.receiver.proofs.Kept as receiver-kept
 use Rattle.initiator.specs.WriteRecord as initiator
 use Rattle.initiator.specs.WriteCount.{takes}
@@ -75,11 +76,16 @@ pub record Within (r : Run) : Type 0 where
 pub within : (r : Run) → withinLimits r ≡ true → Within r
 within r e = let h = each (rows.limits r) e in omega (arith, leb-true, eqb-true)
 
+-- a start of 0 is that of a read or a write
+from-0 : (write : Bool) → (not write || true) ≡ true
+from-0 true = refl
+from-0 false = refl
+
 -- the transfer at either end, of either direction
 pub transfer-holds : (r : Run) (write : Bool) (local remote : ℕ) → Within r → local < 2 ^ 24 → remote < 2 ^ 24 → limitsHold (transferOf r write local remote) ≡ true
 unfolding limitsHold limits
 transfer-holds r write local remote w l m =
-    simp (le-leb _ _ (w .count-least), le-leb (r .count) 16_777_216 (omega (arith, w .count-most)), le-leb _ _ (w .size-least), le-leb _ _ (w .size-most), eq-eqb _ _ (w .size-fours), le-leb _ _ (w .window-least), le-leb _ _ (w .window-most), le-leb _ _ (w .limit-most), le-leb (r .count) (r .count) (omega arith), le-leb local (2 ^ 24 - 1) (omega arith), le-leb remote (2 ^ 24 - 1) (omega arith))
+    simp (le-leb _ _ (w .count-least), le-leb (r .count) 16_777_216 (omega (arith, w .count-most)), le-leb _ _ (w .size-least), le-leb _ _ (w .size-most), eq-eqb _ _ (w .size-fours), le-leb _ _ (w .window-least), le-leb _ _ (w .window-most), le-leb _ _ (w .limit-most), le-leb (r .count) (r .count) (omega arith), le-leb (0 + r .count) 16_777_216 (omega (arith, w .count-most)), from-0 write, le-leb local (2 ^ 24 - 1) (omega arith), le-leb remote (2 ^ 24 - 1) (omega arith))
 
 pub target-limits : (r : Run) (write : Bool) → Within r → limitsHold (transferOf r write TARGET INITIATOR) ≡ true
 target-limits r write w = transfer-holds r write TARGET INITIATOR w (omega arith) (omega arith)
@@ -88,22 +94,45 @@ pub initiator-limits : (r : Run) (write : Bool) → Within r → limitsHold (tra
 initiator-limits r write w = transfer-holds r write INITIATOR TARGET w (omega arith) (omega arith)
 
 -- "both ports set up alike (limits, addresses, tag)"
-alike : (r : Run) (write : Bool) (local remote : ℕ) → Alike (transferOf r write local remote) (transferOf r write remote local)
-alike r write local remote = record { count = refl; size = refl; window = refl; limit = refl; there = refl; back = refl; tag = refl; tag-bits = omega arith; value-bits = omega arith }
+pub alike : (r : Run) (write : Bool) (local remote : ℕ) → Alike (transferOf r write local remote) (transferOf r write remote local)
+alike r write local remote = record { count = refl; size = refl; window = refl; limit = refl; there = refl; back = refl; tag = refl; tag-bits = omega arith; value-bits = omega arith; start = refl }
+
+-- the one burst of either direction
+abbrev pub first-burst : Run → Burst
+first-burst r = record { base = 0; end = r .count; tptt = 0; limit = r .limit }
+
+-- start plus count; a sum with a variable does not compute
+pub whole-run : (r : Run) → 0 + r .count ≡ r .count
+whole-run r = omega arith
 
 -- ── a read ──
 abbrev pub read-sender : Run → Sender
-read-sender r = let t = transferOf r false TARGET INITIATOR in sender-step.beginning t (sender.whole t)
+read-sender r = sender-step.beginning (transferOf r false TARGET INITIATOR) (first-burst r)
 
 abbrev pub read-receiver : Run → Receiver
 read-receiver r = receiver.beginning (transferOf r false INITIATOR TARGET) 0 (r .count)
+
+read-sending : (r : Run) → let t = transferOf r false TARGET INITIATOR in sender-step.beginning t (sender.whole t) ≡ read-sender r
+read-sending r i = sender-step.beginning (transferOf r false TARGET INITIATOR) (record { base = 0; end = whole-run r i; tptt = 0; limit = r .limit })
+
+read-receiving : (r : Run) → let u = transferOf r false INITIATOR TARGET in receiver.beginning u (u .start) (past u) ≡ read-receiver r
+read-receiving r i = receiver.beginning (transferOf r false INITIATOR TARGET) 0 (whole-run r i)
+
+-- the two set-ups of a read
+pub read-sends-up : (r : Run) → Within r → sender.setUpReadOf (transferOf r false TARGET INITIATOR) ≡ Result.value (read-sender r)
+unfolding granted pick
+read-sends-up r w = rw (target-limits r false w) (ap (λ (s : Sender). Result.value s) (read-sending r))
+
+pub read-takes-up : (r : Run) → Within r → receiver-set-up.setUpReadOf (transferOf r false INITIATOR TARGET) ≡ Result.value (read-receiver r)
+unfolding granted pick
+read-takes-up r w = rw (initiator-limits r false w) (ap (λ (s : Receiver). Result.value s) (read-receiving r))
 
 abbrev pub read-ladder : Run → Ladder
 read-ladder r = fresh (sending.Read (read-sender r)) (receiving.Read (read-receiver r))
 
 pub read-sets-up : (r : Run) → Within r → r .direction ≡ Read → setUpOf r ≡ Result.value (read-ladder r)
-unfolding setUpOf granted pick
-read-sets-up r w e = rw (le-leb _ _ (w .count-most), e, target-limits r false w, initiator-limits r false w)
+unfolding setUpOf pick
+read-sets-up r w e = rw (le-leb _ _ (w .count-most), e, read-sends-up r w, read-takes-up r w)
 
 -- ── a write: the XFER_RDY that the target hands out ──
 module _ (r : Run) where
@@ -148,11 +177,8 @@ module _ (r : Run) where
   frame-size = ap length frame-is ∙ encode-length head (xferRdyBytes asked) ∙ rw iu-size
 
   -- the initiator with that burst started
-  abbrev pub first-burst : Burst
-  first-burst = record { base = 0; end = r .count; tptt = 0; limit = r .limit }
-
   abbrev pub write-sender : Writer
-  write-sender = initiator.beginsOf here first-burst
+  write-sender = initiator.beginsOf here (first-burst r)
 
   abbrev pub write-ladder : Ladder
   write-ladder = fresh (sending.Write write-sender) (receiving.Write write-target)
@@ -186,7 +212,7 @@ module _ (r : Run) where
     -- ── the initiator takes it ──
     pub waits-well : initiator.holdsOf (initiator.startOf here) ≡ true
     waits-well =
-        holds-again (initiator.startOf here) (sender-kept.begins-holds here _ (initiator-limits r true w) (omega arith) (omega arith) (omega arith)) refl (omega arith)
+        holds-again (initiator.startOf here) (sender-kept.begins-holds here _ (initiator-limits r true w) (omega arith) (omega arith) (omega arith) (omega arith)) refl (omega arith)
 
     asks : Asks (initiator.startOf here) head asked
     asks = record { frametype = refl; dest = refl; source = refl; tag = refl; range = record { tag = omega arith; tptt = omega arith; offset = omega arith }; writes = refl; offset = omega arith; len = omega (arith, w .count-most) }
@@ -232,8 +258,8 @@ module _ (r : Run) where
     -- ── the delivery claim starts there ──
     pub write-starts : (d b : List ℕ) → 1 ≤ r .limit → length d ≡ r .count → length b ≡ r .count → Starts writePorts sas11 (burst-of r) (world writePorts write-sender write-target d b)
     write-starts d b on dl bl =
-        subst (λ (v : Left Target). Starts writePorts sas11 (record { base = v .left .receiver .base; end = v .left .receiver .end; size = r .size; limit = r .limit }) (world writePorts write-sender write-target d b)) hands-out
-        (subst₂ (λ (v : Left Writer) (c : Target). Starts writePorts sas11 (record { base = nextOf (target.startOf there) area .left .receiver .base; end = nextOf (target.startOf there) area .left .receiver .end; size = r .size; limit = r .limit }) (world writePorts (v .left) c d b)) takes-first acked
+        subst (λ (v : Left Target). Starts writePorts sas11 (record { start = 0; base = v .left .receiver .base; end = v .left .receiver .end; size = r .size; limit = r .limit }) (world writePorts write-sender write-target d b)) hands-out
+        (subst₂ (λ (v : Left Writer) (c : Target). Starts writePorts sas11 (record { start = 0; base = nextOf (target.startOf there) area .left .receiver .base; end = nextOf (target.startOf there) area .left .receiver .end; size = r .size; limit = r .limit }) (world writePorts (v .left) c d b)) takes-first acked
         (Starts.write (initiator.startOf here) (target.startOf there) area d b 36 waits-well refl refl (alike r true INITIATOR TARGET) on dl bl
         (ap (λ (v : Left Target). v .says) hands-out) (ap (λ (v : Left Writer). takes (v .says)) takes-first) (ap (λ (v : Left Target). ackOf (v .left) .says) hands-out ∙ ap (λ (v : Left Target). v .says) acks)))
       where
@@ -241,21 +267,21 @@ module _ (r : Run) where
         acked = ap (λ (v : Left Target). ackOf (v .left) .left) hands-out ∙ ap (λ (v : Left Target). v .left) acks
 
 pub read-starts : (r : Run) → Within r → (d b : List ℕ) → 1 ≤ r .limit → length d ≡ r .count → length b ≡ r .count → Starts readPorts sas11 (burst-of r) (world readPorts (read-sender r) (read-receiver r) d b)
-unfolding granted pick
 read-starts r w d b on dl bl =
-    Starts.read (transferOf r false TARGET INITIATOR) (transferOf r false INITIATOR TARGET) (read-sender r) (read-receiver r) d b (rw (target-limits r false w)) (rw (initiator-limits r false w))
-    (alike r false TARGET INITIATOR) on dl bl
+    subst (λ (end : ℕ). Starts readPorts sas11 (record { start = 0; base = 0; end = end; size = r .size; limit = r .limit }) (world readPorts (read-sender r) (read-receiver r) d b)) (whole-run r)
+    (Starts.read (transferOf r false TARGET INITIATOR) (transferOf r false INITIATOR TARGET) (read-sender r) (read-receiver r) d b (read-sends-up r w) (read-takes-up r w)
+    (alike r false TARGET INITIATOR) on dl (omega arith))
 
 -- ── all four records are well-formed ──
 pub read-sender-holds : (r : Run) → Within r → sender-step.holdsOf (read-sender r) ≡ true
-read-sender-holds r w = sender-kept.begins-holds _ _ (target-limits r false w) (omega arith) (omega arith) (omega arith)
+read-sender-holds r w = sender-kept.begins-holds _ _ (target-limits r false w) (omega arith) (omega arith) (omega arith) (omega arith)
 
 pub read-receiver-holds : (r : Run) → Within r → receiver.holdsOf (read-receiver r) ≡ true
-read-receiver-holds r w = receiver-kept.begins-holds _ 0 (r .count) (initiator-limits r false w) (omega arith) (omega arith)
+read-receiver-holds r w = receiver-kept.begins-holds _ 0 (r .count) (initiator-limits r false w) (omega arith) (omega arith) (omega arith)
 
 pub write-sender-holds : (r : Run) → Within r → initiator.holdsOf (write-sender r) ≡ true
 write-sender-holds r w =
-    holds-again (write-sender r) (sender-kept.begins-holds _ (first-burst r) (initiator-limits r true w) (omega arith) (omega arith) (omega arith)) refl (omega arith)
+    holds-again (write-sender r) (sender-kept.begins-holds _ (first-burst r) (initiator-limits r true w) (omega arith) (omega arith) (omega arith) (omega arith)) refl (omega arith)
 
 pub write-target-holds : (r : Run) → Within r → target.holdsOf (write-target r) ≡ true
 write-target-holds r w = acknowledged-holds (asking r UNANSWERED) (asking-well r w) refl

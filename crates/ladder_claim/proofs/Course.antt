@@ -4,7 +4,7 @@ use mathlib.Core.Bool.{Bool, true, false}
 use mathlib.Core.Path.{_≡_, refl, sym, ap, _∙_}
 use native.Mathlib.Omega.{arith}
 use Rattle.status.specs.Pick.{pick}
-use Rattle.transfer.specs.Limits.{limitsHold}
+use Rattle.transfer.specs.Limits.{past, limitsHold}
 use Rattle.transfer.specs.declared.Transfer.{Transfer}
 use Rattle.transfer.proofs.Bounds.{Bounds, bounds}
 use Rattle.sender_steps.specs.Record.{holdsOf}
@@ -16,7 +16,7 @@ use Rattle.sender_steps.proofs.Held.{held}
 use Rattle.sender_steps.proofs.Due.{Due}
 use Rattle.sender.proofs.Kept.{sent-holds, lowered-holds, retried-holds, moved-holds}
 use Rattle.link.proofs.Grid.{Inside, at, needed, at-next, at-below, inside-at, inside-mono, inside-needed}
-use Rattle.ladder_run.specs.Row.{ROWS-MOST}
+use Rattle.ladder_run.specs.Row.{ROWS-MOST, COUNT-MOST}
 
 -- the transfer and its one burst; the number of fates listed
 pub record Course : Type 0 where
@@ -25,6 +25,7 @@ pub record Course : Type 0 where
   pub listed : ℕ
   pub limits-hold : limitsHold t ≡ true
   pub some : b .base < b .end
+  pub small : past t ≤ COUNT-MOST
   pub few : listed + (t .window - 1) + needed (b .base) (b .end) (t .size) ≤ ROWS-MOST
 
 module _ (C : Course) where

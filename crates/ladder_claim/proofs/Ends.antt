@@ -46,7 +46,7 @@ module _ (r : Run) (w : Within r) (n : ℕ) (few : n ≤ FATES-MOST) (write : Bo
   rows-few = omega (arith, frames-most r w)
 
   abbrev course : Course
-  course = record { t = t; b = first-burst r; listed = n; limits-hold = limits; some = w .count-least; few = rows-few }
+  course = record { t = t; b = first-burst r; listed = n; limits-hold = limits; some = w .count-least; small = omega (arith, w .count-most); few = rows-few }
 
   -- nothing is handed out yet
   starts : (x : Sending) → SendsAs x (beginning t (first-burst r)) → Going course x 0 0
@@ -60,7 +60,7 @@ module _ (r : Run) (w : Within r) (n : ℕ) (few : n ≤ FATES-MOST) (write : Bo
         on = record {
           transfer = refl;
           burst = refl;
-          holds = begins-holds t (first-burst r) limits (omega arith) (omega arith) (omega arith);
+          holds = begins-holds t (first-burst r) limits (omega arith) (omega arith) (omega arith) (omega arith);
           live = refl;
           next-at = first;
           all-in = λ i q. absurd (omega arith);

@@ -31,7 +31,7 @@ use Rattle.ladder_run.specs.Row.{area}
 use Rattle.ladder_run.specs.Setup.{INITIATOR, TARGET, transferOf}
 use Rattle.ladder_claim.proofs.Embeds.{Embeds, read-embeds, write-embeds}
 use Rattle.ladder_claim.proofs.Stands.{Fills}
-use Rattle.ladder_claim.proofs.Begun.{Within, target-limits, initiator-limits, read-sender, read-receiver, write-sender, write-target, waits-well, hands-out, takes-first, acks}
+use Rattle.ladder_claim.proofs.Begun.{Within, alike, whole-run, read-sends-up, read-takes-up, read-sender, read-receiver, write-sender, write-target, waits-well, hands-out, takes-first, acks}
 
 -- the mark is the ladder's
 module _ {P : Ports} (E : Embeds P) (mark : P .Receiving → ℕ) (same : (y : P .Receiving) → filledOf (E .receiver y) ≡ mark y) (end : ℕ) (start : World P) (f : Marks {P = P} mark end start) where
@@ -43,11 +43,11 @@ module _ {P : Ports} (E : Embeds P) (mark : P .Receiving → ℕ) (same : (y : P
       }
 
 pub read-filling : (r : Run) → Within r → (d b : List ℕ) → 1 ≤ r .limit → length d ≡ r .count → length b ≡ r .count → Fills read-embeds (fresh readPorts (read-sender r) (read-receiver r) d b) (r .count)
-unfolding granted pick
 read-filling r w d b on dl bl =
     by-mark read-embeds (λ v. v .filled) (λ y. refl) (r .count) _
-    (read-fills (transferOf r false TARGET INITIATOR) (transferOf r false INITIATOR TARGET) (read-sender r) (read-receiver r) d b (rw (target-limits r false w)) (rw (initiator-limits r false w))
-    (record { count = refl; size = refl; window = refl; limit = refl; there = refl; back = refl; tag = refl; tag-bits = omega arith; value-bits = omega arith }) on dl bl)
+    (subst (λ (n : ℕ). Marks {P = readPorts} (λ v. v .filled) n (fresh readPorts (read-sender r) (read-receiver r) d b)) (whole-run r)
+    (read-fills (transferOf r false TARGET INITIATOR) (transferOf r false INITIATOR TARGET) (read-sender r) (read-receiver r) d b (read-sends-up r w) (read-takes-up r w)
+    (alike r false TARGET INITIATOR) on dl (omega arith)))
 
 pub write-filling : (r : Run) → Within r → (d b : List ℕ) → 1 ≤ r .limit → length d ≡ r .count → length b ≡ r .count → Fills write-embeds (fresh writePorts (write-sender r) (write-target r) d b) (r .count)
 write-filling r w d b on dl bl = by-mark write-embeds (λ v. v .receiver .filled) (λ y. refl) (r .count) _ marks
@@ -62,5 +62,5 @@ write-filling r w d b on dl bl = by-mark write-embeds (λ v. v .receiver .filled
     marks =
         subst (λ (v : Left Target). Marks {P = writePorts} (λ z. z .receiver .filled) (v .left .receiver .end) (fresh writePorts (write-sender r) (write-target r) d b)) (hands-out r w)
         (subst₂ (λ (v : Left Writer) (c : Target). Marks {P = writePorts} (λ z. z .receiver .filled) (nextOf there area .left .receiver .end) (fresh writePorts (v .left) c d b)) (takes-first r w) acked
-        (write-fills (initiator.startOf (transferOf r true INITIATOR TARGET)) there area d b 36 (waits-well r w) refl refl (record { count = refl; size = refl; window = refl; limit = refl; there = refl; back = refl; tag = refl; tag-bits = omega arith; value-bits = omega arith }) on dl bl
+        (write-fills (initiator.startOf (transferOf r true INITIATOR TARGET)) there area d b 36 (waits-well r w) refl refl (alike r true INITIATOR TARGET) on dl bl
         (ap (λ (v : Left Target). v .says) (hands-out r w)) (ap (λ (v : Left Writer). takes (v .says)) (takes-first r w)) (ap (λ (v : Left Target). ackOf (v .left) .says) (hands-out r w) ∙ ap (λ (v : Left Target). v .says) (acks r w))))

@@ -2,14 +2,15 @@
 use Prim.Native.Nat.{ℕ, suc, _+_, _≤_, _<_}
 use mathlib.Core.List.{List}
 use mathlib.Core.Bool.{Bool, true, false, _&&_}
-use mathlib.Core.Path.{_≡_, refl, sym, ap, _∙_}
+use mathlib.Core.Path.{_≡_, refl, sym, ap, subst, _∙_}
 use native.Mathlib.Omega.{arith}
-use lib.Dec.{ltb, eqb}
+use lib.Dec.{leb, ltb, eqb}
 use lib.ListN.{length, take, length-replicate}
-use borrow.Author.Tests.{ltb-false, eqb-true, eqb-false, ne-eqb}
+use borrow.Author.Tests.{le-leb, ltb-false, eqb-true, eqb-false, ne-eqb}
 use Rattle.status.specs.Pick.{pick}
 use Rattle.status.specs.Answer.{Left}
 use Rattle.transfer.specs.declared.Transfer.{Transfer}
+use Rattle.transfer.specs.Limits.{past}
 use Rattle.sender_steps.specs.Record.{lentOf}
 use Rattle.sender_steps.specs.Transmit.{frameOf, sentOf}
 use Rattle.sender_steps.specs.declared.types.Sender.{Sender}
@@ -17,13 +18,13 @@ use Rattle.sender_steps.proofs.Held.{lent-again}
 use Rattle.sender_steps.proofs.Due.{Due}
 use Rattle.link.specs.Ports.{Called}
 use Rattle.ladder_text.specs.declared.types.Row.{Row}
-use Rattle.ladder_run.specs.Ends.{askOf}
-use Rattle.ladder_run.specs.Row.{area, silent, ROWS-MOST, openOf, Sent, outBy, nothingOf, sentOf as met, askedBy, outOf}
+use Rattle.ladder_run.specs.Ends.{askOf, pastOf}
+use Rattle.ladder_run.specs.Row.{area, silent, ROWS-MOST, COUNT-MOST, openOf, Sent, outBy, nothingOf, sentOf as met, askedBy, outOf}
 use Rattle.ladder_run.specs.declared.types.Sending.{Sending}
 use Rattle.ladder_run.specs.declared.types.Report.{Report}
 use Rattle.ladder_run.specs.declared.types.Ladder.{Ladder}
 use Rattle.ladder_run.specs.declared.types.Due.the-variants as due
-use Rattle.ladder_claim.proofs.SendingCore.{SendsAs, asks-as}
+use Rattle.ladder_claim.proofs.SendingCore.{SendsAs, past-as, asks-as}
 use Rattle.ladder_claim.proofs.Course.{Course, next-needed, sent-on}
 use Rattle.ladder_claim.proofs.CoreAsked.{Asking, asking, frame-least}
 use Rattle.ladder_claim.proofs.Going.{Going, Live}
@@ -87,8 +88,15 @@ module _ (C : Course) (fs d : List ℕ) (sent : length d ≡ C .t .count) where
         go true e = let k = C .few in absurd (omega (arith, next-needed C s (l .frames) j m on (undone (eqb-true (s .unanswered) 0 e))))
         go false e = omega (arith, eqb-false (s .unanswered) 0 e)
 
+    and-last : (t : Bool) → (t && true) ≡ t
+    and-last true = refl
+    and-last false = refl
+
     opens : openOf l ≡ ltb (l .frames) ROWS-MOST
-    opens = ap (λ (q : Report). silent q && ltb (l .frames) ROWS-MOST) nothing
+    opens =
+        let p = past-as (l .sending) s sends ∙ ap past (on .transfer) in
+        let q : leb (pastOf (l .sending)) COUNT-MOST ≡ true = le-leb _ _ (subst (λ (n : ℕ). n ≤ COUNT-MOST) (sym p) (C .small)) in
+        (λ i. silent (nothing i) && ltb (l .frames) ROWS-MOST && q i) ∙ and-last (ltb (l .frames) ROWS-MOST)
 
     pub outs : Asked l (outOf l fs d b)
     unfolding outOf pick

@@ -60,10 +60,14 @@ module _ {P : Ports} (E : Embeds P) (r : Run) (s : P .Sending) (y : P .Receiving
   few : tally .faults ≤ faultsOf fs (whole .last .frames)
   few = omega (arith, level .faults)
 
+  -- start plus i
+  from-0 : (i : ℕ) → i ≡ 0 + i
+  from-0 i = omega arith
+
   same-data : IsDelivered whole → whole .received ≡ d
   same-data q =
       let n : length (whole .received) ≡ length b = claim .untouched .1 in
-      ext-getD 0 (whole .received) d (n ∙ bl ∙ sym dl) (λ i h. claim .stored (q .0, ap onLink (q .1)) i (omega arith) (omega arith))
+      ext-getD 0 (whole .received) d (n ∙ bl ∙ sym dl) (λ i h. ap (λ (k : ℕ). getD (whole .received) k 0) (from-0 i) ∙ claim .stored (q .0, ap onLink (q .1)) i (omega arith) (omega arith))
 
   row-count : length (whole .rows) ≡ length handed
   row-count = sym (length-map (whole .rows) shownIn) ∙ ap length (sym rows) ∙ length-map handed (λ f. shownOf (decode f))

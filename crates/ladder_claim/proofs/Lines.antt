@@ -5,13 +5,13 @@ use mathlib.Core.Bool.{false, _&&_}
 use mathlib.Core.Logic.{_⊎_, inl, inr}
 use mathlib.Core.Path.{_≡_, refl, sym, subst, _∙_}
 use native.Mathlib.Omega.{arith}
-use lib.Dec.{ltb}
+use lib.Dec.{leb, ltb}
 use lib.ListN.{length}
 use Rattle.status.specs.Pick.{pick}
 use Rattle.ladder_text.specs.declared.types.Row.{Row}
 use Rattle.ladder_text.specs.declared.types.Verdict.{Verdict}
-use Rattle.ladder_run.specs.Ends.{askOf}
-use Rattle.ladder_run.specs.Row.{area, silent, ROWS-MOST, Sent, outBy, nothingOf, askedBy, outOf}
+use Rattle.ladder_run.specs.Ends.{askOf, pastOf}
+use Rattle.ladder_run.specs.Row.{area, silent, ROWS-MOST, COUNT-MOST, Sent, outBy, nothingOf, askedBy, outOf}
 use Rattle.ladder_run.specs.Round.{closedOf}
 use Rattle.ladder_run.specs.Line.{NextLine, begins, firstly, lineOf}
 use Rattle.ladder_run.specs.Whole.{Whole, onward, climb}
@@ -25,7 +25,7 @@ use Rattle.ladder_claim.proofs.Answered.{closes, closed-frames}
 -- no frame is asked for any more
 over : (l : Ladder) (fs d b : List ℕ) → silent (l .report) ≡ false → outOf l fs d b ≡ outBy (nothingOf l (l .sending)) b
 unfolding outOf pick
-over l fs d b e i = pick (e i && ltb (l .frames) ROWS-MOST) (askedBy l (askOf (l .sending) d area) fs b) (outBy (nothingOf l (l .sending)) b)
+over l fs d b e i = pick (e i && ltb (l .frames) ROWS-MOST && leb (pastOf (l .sending)) COUNT-MOST) (askedBy l (askOf (l .sending) d area) fs b) (outBy (nothingOf l (l .sending)) b)
 
 module _ (C : Course) (fs d : List ℕ) (lists : length fs ≡ C .listed) (sent : length d ≡ C .t .count) where
   -- the line x of a ladder that had handed out n frames

@@ -138,5 +138,5 @@ module _ {P : Ports} (E : Embeds P) (start : World P) (end : ℕ) (fs d : List �
   out-stands = go (openOf l) refl
     where
       go : (t : Bool) → openOf l ≡ t → StandsAfter (pick t (askedBy l (askOf (l .sending) d area) fs b) (outBy (nothingOf l (l .sending)) b))
-      go true e = asked (is-silent (l .report) (both _ _ e)) area
+      go true e = asked (is-silent (l .report) (both (silent (l .report)) _ (both _ _ e))) area
       go false e = st

@@ -27,7 +27,7 @@ use Rattle.ladder_run.specs.declared.types.Ladder.{Ladder}
 
 -- line one as the burst that is delivered
 abbrev pub burstOf : Run → BurstParameters
-burstOf r = record { base = 0; end = r .count; size = r .size; limit = r .limit }
+burstOf r = record { start = 0; base = 0; end = r .count; size = r .size; limit = r .limit }
 
 -- the ladder of line one r, at its start; fates, sent data, received data
 pub record Started (r : Run) (l : Ladder) (fs d b : List ℕ) : Type 0 where

@@ -44,8 +44,8 @@ module _ (fs d b : List ℕ) (l : Ladder) {x : Next} {c : List ℕ} (h : nextLin
   pub goes-over : (k : ℕ) {v : Verdict} → x .line ≡ line.Verdict v → climb (suc k) fs d l b ≡ climb zero fs d (x .ladder) c
   goes-over k p = goes k ∙ ap (λ (v : Line). onward v (x .ladder) c (λ m e. climb k fs d m e)) p
 
-  pub row-short : {r : Row} → length d ≤ 65_536 → x .line ≡ line.Row r → length (lineText (rowText r)) ≤ 35
-  row-short {r} n p = small-lines l fs d b r n (ap (λ (v : NextLine). v .line) (sym h) ∙ p) .text
+  pub row-short : {r : Row} → x .line ≡ line.Row r → length (lineText (rowText r)) ≤ 35
+  row-short {r} p = small-lines l fs d b r (ap (λ (v : NextLine). v .line) (sym h) ∙ p) .text
 
 module _ {fs d out₀ : List ℕ} {w : Whole} {b out : List ℕ} {l : Ladder} {at left : ℕ} (g : Climbing fs d out₀ w b out l at left) (enough : 1_340_284 ≤ length out₀) where
   pub out-length : length out ≡ length out₀
@@ -59,12 +59,12 @@ module _ {fs d out₀ : List ℕ} {w : Whole} {b out : List ℕ} {l : Ladder} {a
     as-suc = omega arith
 
     -- a row was printed
-    pub climbing-row : {r : Row} {n : ℕ} {e : List ℕ} → length d ≤ 65_536 → x .line ≡ line.Row r → Puts out at (lineText (rowText r)) n e → Climbing fs d out₀ w c e (x .ladder) n (left - 1)
-    climbing-row {r} {n} {e} few p q =
+    pub climbing-row : {r : Row} {n : ℕ} {e : List ℕ} → x .line ≡ line.Row r → Puts out at (lineText (rowText r)) n e → Climbing fs d out₀ w c e (x .ladder) n (left - 1)
+    climbing-row {r} {n} {e} p q =
         let rest = climb (left - 1) fs d (x .ladder) c in
         let s = lineText (rowText r) in
         let k : climb left fs d l b ≡ above r rest = ap (λ (v : ℕ). climb v fs d l b) as-suc ∙ goes-row fs d b l h (left - 1) p in
-        let short = row-short fs d b l h few p in
+        let short = row-short fs d b l h p in
         let under : s ++ rowsText (rest .rows) ≡ rowsText (r ∷ rest .rows) = append-assoc (rowText r) (LF ∷ []) (rowsText (rest .rows)) in
         record {
           text = g .text ++ s;

@@ -4,7 +4,6 @@ ghost use Prim.Native.Nat.{_≤_};
 ghost use lib.ListN.{length};
 ghost use Rattle.ladder_text.specs.Place.{Puts};
 ghost use Rattle.ladder_run.specs.Whole.{wholeOf};
-ghost use Rattle.ladder_run.specs.Small.{COUNT-MOST};
 ghost use Rattle.ladder_print.specs.Text.{wholeText, TEXT-MOST};
 use crate::put;
 use ladder_run::Ladder;
@@ -18,7 +17,7 @@ pub(crate) fn climb(
     received: &mut [u8],
     out: &mut [u8],
 ) -> usize
-    requires { ⌜ (length (now source) ≤ COUNT-MOST) × (TEXT-MOST ≤ length (now out)) ⌝ }
+    requires { ⌜ TEXT-MOST ≤ length (now out) ⌝ }
     ensures { λ n. ⌜ Puts (now (out .entry)) 0 (wholeText (now (fates .entry)) (wholeOf (now (fates .entry)) (now (source .entry)) start (now (received .entry)))) n (now (out .exit)) × (n ≤ TEXT-MOST) ⌝ }
 {
     let mut l = start;

@@ -18,9 +18,9 @@ use Rattle.link.specs.Ports.{Called, lending}
 use Rattle.ladder_text.specs.declared.types.Fate.{Fate}
 use Rattle.ladder_text.specs.declared.types.Receipt.{Receipt}
 use Rattle.ladder_text.specs.declared.types.Receipt.the-variants.{Nothing}
-use Rattle.ladder_run.specs.Ends.{asked, arrived, askOf, arriveOf}
+use Rattle.ladder_run.specs.Ends.{asked, arrived, askOf, arriveOf, pastOf}
 use Rattle.ladder_run.specs.Fates.{fateOf, whole}
-use Rattle.ladder_run.specs.Row.{area, handed, receiptOf, shownOf, Meeting, arrives, metOf, metBy, silent, openOf, Sent, outBy, nothingOf, rowOf, sentOf, askedBy, outOf}
+use Rattle.ladder_run.specs.Row.{area, handed, receiptOf, shownOf, Meeting, arrives, metOf, metBy, silent, COUNT-MOST, openOf, Sent, outBy, nothingOf, rowOf, sentOf, askedBy, outOf}
 use Rattle.ladder_run.specs.Round.{closedOf}
 use Rattle.ladder_run.specs.Line.{NextLine, nextLineBy, lastly, begins, firstly, lineOf}
 use Rattle.ladder_text.specs.declared.types.Row.{Row}
@@ -67,7 +67,7 @@ sent-is l s f fs b {fate} {seen} {met} {e} p q h =
 
 -- a row more can be told
 pub open-less : (l : Ladder) {t : Bool} → t ≡ openOf l → t ≡ true → l .frames < 38_291
-open-less l h t = ltb-true _ _ (and-true (silent (l .report)) _ (sym h ∙ t) .1)
+open-less l h t = ltb-true _ _ (and-true (silent (l .report)) _ (and-true _ (leb (pastOf (l .sending)) COUNT-MOST) (sym h ∙ t) .0) .1)
 
 module _ (l : Ladder) (fs d b : List ℕ) where
   pub out-closed : {t : Bool} {x : Out} → t ≡ openOf l → t ≡ false → x ≡ nothingOf l (l .sending) → outBy x b ≡ outOf l fs d b

@@ -1,6 +1,5 @@
--- A frame that a sending port hands out: its data offset is below the length of the data buffer, since the port's next offset is below its burst's end and the
--- buffer has the byte count's length.
-use Prim.Native.Nat.{ℕ, _^_, _≤_, _<_}
+-- A frame that a sending port hands out: its data offset is below start plus count, since the port's next offset is below its burst's end.
+use Prim.Native.Nat.{ℕ, _+_, _^_, _≤_, _<_}
 use mathlib.Core.List.{List, []}
 use mathlib.Core.Bool.{Bool, true, false}
 use mathlib.Core.Path.{_≡_, refl, sym, subst}
@@ -22,6 +21,7 @@ use Rattle.frame.specs.Read.{headerIn, form, wellFormed, parsed, decode}
 use Rattle.frame.specs.Write.{hands, handing}
 use Rattle.frame.specs.declared.types.Header.{Header}
 use Rattle.frame.proofs.Digits.{field-digits}
+use Rattle.transfer.specs.Limits.{past}
 use Rattle.sender_steps.specs.Record.{lentOf}
 use Rattle.sender_steps.specs.Transmit.{waitsOf, dataHeader, partOf, frameOf, sentOf}
 use Rattle.sender.specs.Transmit.{nextOf}
@@ -32,17 +32,16 @@ use Rattle.initiator.specs.WriteSend as write
 use Rattle.initiator.specs.declared.types.Writer.{Writer}
 use Rattle.initiator.proofs.WriteReturns.{kept-says}
 use Rattle.target.specs.ReadSend.{readNextOf}
-use Rattle.ladder_run.specs.Ends.{askOf}
-use Rattle.ladder_run.specs.Row.{handed, bit, shownOf}
-use Rattle.ladder_run.specs.Small.{COUNT-MOST}
+use Rattle.ladder_run.specs.Ends.{askOf, pastOf}
+use Rattle.ladder_run.specs.Row.{COUNT-MOST, handed, bit, shownOf}
 use Rattle.ladder_run.specs.declared.types.Sending.{Sending}
 use Rattle.ladder_run.specs.declared.types.Sending.the-variants as sending
 use Rattle.ladder_run.specs.declared.types.Shown.{Shown}
 
--- nothing was handed out, or the frame f, whose data offset is below the length of the data buffer d
-pub data Hands (d f : List ℕ) : Said → Type 0 where
-  nothing : {x : Said} → handed x ≡ 0 → Hands d f x
-  frame : headerIn f .offset < length d → Hands d f (Said.frame (length f))
+-- nothing was handed out, or the frame f, whose data offset is below p
+pub data Hands (p : ℕ) (f : List ℕ) : Said → Type 0 where
+  nothing : {x : Said} → handed x ≡ 0 → Hands p f x
+  frame : headerIn f .offset < p → Hands p f (Said.frame (length f))
 
 -- the data offset comes back
 offset-back : (h : Header) (iu : List ℕ) → h .offset < 2 ^ 32 → headerIn (encode h iu) .offset ≡ h .offset
@@ -50,7 +49,7 @@ unfolding headerIn encode headerBytes
 offset-back h iu r = field-digits 4 (h .offset) [] r
 
 module _ (s : Sender) (d out : List ℕ) where
-  due-offset : lentOf s (length d) ≡ true → waitsOf s ≡ false → headerIn (frameOf s d) .offset < length d
+  due-offset : lentOf s (length d) ≡ true → waitsOf s ≡ false → headerIn (frameOf s d) .offset < past (s .transfer)
   unfolding frameOf dataHeader
   due-offset l w =
       let h = lent-holds s (length d) l in
@@ -58,34 +57,41 @@ module _ (s : Sender) (d out : List ℕ) where
       let m = k .marks in
       let t = k .limits in
       let u = due s w in
-      omega (arith, h .1, m .next-most, m .end-most, t .count-most, u .next, offset-back (dataHeader s) (partOf s d) (omega (arith, m .next-most, m .end-most, t .count-most)))
+      omega (arith, m .next-most, m .end-most, u .next, offset-back (dataHeader s) (partOf s d) (omega (arith, m .next-most, m .end-most, t .past-most)))
 
-  next-hands : Hands d (frameOf s d) (nextOf s d out .says)
+  next-hands : Hands (past (s .transfer)) (frameOf s d) (nextOf s d out .says)
   unfolding nextOf hands pick
   next-hands = go (entryOf (lentOf s (length d)) (s .ended)) (waitsOf s) (leb (length (frameOf s d)) (length out)) refl refl
     where
-      go : (e : Entry) (w t : Bool) → e ≡ entryOf (lentOf s (length d)) (s .ended) → waitsOf s ≡ w → Hands d (frameOf s d) (unless e s (pick w (s saying Said.word Word.wait) (pick t (sentOf s saying Said.frame (length (frameOf s d))) (s saying Said.refused 3))) .says)
+      go : (e : Entry) (w t : Bool) → e ≡ entryOf (lentOf s (length d)) (s .ended) → waitsOf s ≡ w → Hands (past (s .transfer)) (frameOf s d) (unless e s (pick w (s saying Said.word Word.wait) (pick t (sentOf s saying Said.frame (length (frameOf s d))) (s saying Said.refused 3))) .says)
       go (Closed why) w t p q = Hands.nothing refl
       go Open true t p q = Hands.nothing refl
       go Open false false p q = Hands.nothing refl
       go Open false true p q = Hands.frame (due-offset (opened _ _ (p) .0) q)
 
-  read-hands : Hands d (frameOf s d) (readNextOf s d out .says)
-  read-hands = picked (λ (x : Left Sender). Hands d (frameOf s d) (x .says)) (s .transfer .write) _ _ (Hands.nothing refl) next-hands
+  read-hands : Hands (past (s .transfer)) (frameOf s d) (readNextOf s d out .says)
+  read-hands = picked (λ (x : Left Sender). Hands (past (s .transfer)) (frameOf s d) (x .says)) (s .transfer .write) _ _ (Hands.nothing refl) next-hands
 
-write-hands : (w : Writer) (d out : List ℕ) → Hands d (frameOf (write.begunOf w .sender) d) (write.nextOf w d out .says)
+-- the burst that starts is one of the same transfer
+begun-past : (w : Writer) → past (write.begunOf w .sender .transfer) ≡ past (w .sender .transfer)
+unfolding write.begunOf
+begun-past w = picked (λ (v : Writer). past (v .sender .transfer) ≡ past (w .sender .transfer)) (w .pending) _ _ refl refl
+
+write-hands : (w : Writer) (d out : List ℕ) → Hands (past (w .sender .transfer)) (frameOf (write.begunOf w .sender) d) (write.nextOf w d out .says)
 unfolding write.nextOf
 write-hands w d out =
-    unless-gives (λ (x : Left Writer). Hands d (frameOf (write.begunOf w .sender) d) (x .says)) (entryOf (write.lentOf w (length d)) (w .sender .ended)) w _ (λ n. Hands.nothing refl)
-    (picked (λ (x : Left Writer). Hands d (frameOf (write.begunOf w .sender) d) (x .says)) (write.heldUp w) _ _ (Hands.nothing refl)
-    (subst (Hands d (frameOf (write.begunOf w .sender) d)) (sym (kept-says w _)) (next-hands (write.begunOf w .sender) d out)))
+    let p = past (w .sender .transfer) in
+    let f = frameOf (write.begunOf w .sender) d in
+    unless-gives (λ (x : Left Writer). Hands p f (x .says)) (entryOf (write.lentOf w (length d)) (w .sender .ended)) w _ (λ n. Hands.nothing refl)
+    (picked (λ (x : Left Writer). Hands p f (x .says)) (write.heldUp w) _ _ (Hands.nothing refl)
+    (subst (Hands p f) (sym (kept-says w _)) (subst (λ (n : ℕ). Hands n f (nextOf (write.begunOf w .sender) d out .says)) (begun-past w) (next-hands (write.begunOf w .sender) d out))))
 
 -- the frame that is due at a port, if any is
 abbrev pub dueFrame : Sending → List ℕ → List ℕ
 dueFrame (sending.Read s) d = frameOf s d
 dueFrame (sending.Write w) d = frameOf (write.begunOf w .sender) d
 
-pub ask-hands : (s : Sending) (d out : List ℕ) → Hands d (dueFrame s d) (askOf s d out .says)
+pub ask-hands : (s : Sending) (d out : List ℕ) → Hands (pastOf s) (dueFrame s d) (askOf s d out .says)
 ask-hands (sending.Read s) d out = read-hands s d out
 ask-hands (sending.Write w) d out = write-hands w d out
 

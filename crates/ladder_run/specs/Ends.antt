@@ -2,6 +2,7 @@
 use Prim.Native.Nat.{ℕ}
 use mathlib.Core.List.{List}
 use Rattle.status.specs.Answer.{says, Left, _saying_}
+use Rattle.transfer.specs.Limits.{past}
 use Rattle.link.specs.Ports.{Called, lending, Signal}
 use Rattle.link.specs.Reading.{readPorts}
 use Rattle.link.specs.Writing.{writePorts}
@@ -36,6 +37,11 @@ arriveOf (receiving.Write y) f b = called receiving.Write (writePorts .receiveCa
 abbrev pub filledOf : Receiving → ℕ
 filledOf (receiving.Read r) = r .filled
 filledOf (receiving.Write y) = y .receiver .filled
+
+-- start plus count of the transfer at the sending end
+abbrev pub pastOf : Sending → ℕ
+pastOf (sending.Read s) = past (s .transfer)
+pastOf (sending.Write w) = past (w .sender .transfer)
 
 -- what the functions answer
 abbrev pub asked : Asked → Left Sending

@@ -3,7 +3,7 @@ use Prim.Native.Nat.{ℕ, _+_}
 use mathlib.Core.List.{List}
 use mathlib.Core.Bool.{Bool, true, false, cond, _&&_}
 use lib.ListN.{take, replicate}
-use lib.Dec.{ltb, eqb}
+use lib.Dec.{leb, ltb, eqb}
 use Rattle.status.specs.Pick.{pick, ifAny}
 use Rattle.status.specs.Answer.{Said, view, number, stores}
 use Rattle.status.specs.Result.{Result}
@@ -14,7 +14,7 @@ use Rattle.ladder_text.specs.declared.types.Fate.{Fate}
 use Rattle.ladder_text.specs.declared.types.Row.{Row}
 use Rattle.ladder_text.specs.declared.types.Receipt.{Receipt}
 use Rattle.ladder_text.specs.declared.types.Receipt.the-variants.{Stored, Discarded, Nothing, Number}
-use Rattle.ladder_run.specs.Ends.{askOf, arriveOf}
+use Rattle.ladder_run.specs.Ends.{askOf, arriveOf, pastOf}
 use Rattle.ladder_run.specs.Fates.{fateOf, whole}
 use Rattle.ladder_run.specs.declared.types.Sending.{Sending}
 use Rattle.ladder_run.specs.declared.types.Receiving.{Receiving}
@@ -77,8 +77,13 @@ FATES-MOST = 21_844
 abbrev pub ROWS-MOST : ℕ
 ROWS-MOST = 38_291
 
+-- "takes counts to 65,536"
+abbrev pub COUNT-MOST : ℕ
+COUNT-MOST = 65_536
+
+-- a frame may be asked for; the last test, as the one before it, bounds the text for any record, and is true of every ladder that is set up
 abbrev pub openOf : Ladder → Bool
-openOf l = silent (l .report) && ltb (l .frames) ROWS-MOST
+openOf l = silent (l .report) && ltb (l .frames) ROWS-MOST && leb (pastOf (l .sending)) COUNT-MOST
 
 -- what a frame asked for leaves: the ladder, the row of the frame that was handed out, the received data
 pub record Sent : Type 0 where

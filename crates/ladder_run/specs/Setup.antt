@@ -22,7 +22,7 @@ use Rattle.link.specs.Claim.{xferRdySent}
 use Rattle.ladder_text.specs.declared.types.Run.{Run}
 use Rattle.ladder_text.specs.declared.types.Direction.{Direction}
 use Rattle.ladder_text.specs.declared.types.Direction.the-variants.{Read, Write}
-use Rattle.ladder_run.specs.Row.{area, handed}
+use Rattle.ladder_run.specs.Row.{area, handed, COUNT-MOST}
 use Rattle.ladder_run.specs.declared.types.Sending.{Sending}
 use Rattle.ladder_run.specs.declared.types.Sending.the-variants as sending
 use Rattle.ladder_run.specs.declared.types.Receiving.{Receiving}
@@ -42,10 +42,10 @@ TARGET = 0xab_cdef
 abbrev pub TAG : ℕ
 TAG = 0x0012
 
--- line one as a transfer at one end; one burst; SAS-1.1
+-- line one as a transfer at one end; one burst; SAS-1.1; a read starts at 0
 abbrev pub transferOf : Run → Bool → ℕ → ℕ → Transfer
 transferOf r write local remote =
-    record { write = write; count = r .count; size = r .size; window = r .window; limit = r .limit; burst = r .count; local = local; remote = remote; tag = TAG; sas2 = false; value = 0; irt = 0 }
+    record { write = write; count = r .count; size = r .size; window = r .window; limit = r .limit; burst = r .count; local = local; remote = remote; tag = TAG; sas2 = false; value = 0; irt = 0; start = 0 }
 
 -- nothing has gone out yet
 abbrev pub fresh : Sending → Receiving → Ladder
@@ -73,7 +73,7 @@ readySetUp Write r = readyWrite (initiator.setUpWriteOf (transferOf r true INITI
 
 -- "takes counts to 65,536"; the other limits are the transfer's: 1
 unfoldable pub setUpOf : Run → Result Ladder
-setUpOf r = pick (leb (r .count) 65_536) (readySetUp (r .direction) r) (Result.number 1)
+setUpOf r = pick (leb (r .count) COUNT-MOST) (readySetUp (r .direction) r) (Result.number 1)
 
 -- what the set-up answers: the ladder, or a number
 abbrev pub made : Setup → Result Ladder

@@ -1,4 +1,5 @@
--- How large the numbers of a row can be, and how long its line: of any ladder record, since a port hands out only what its tests of number 1 allow.
+-- How large the numbers of a row can be, and how long its line: of any ladder record, since a port hands out only what its tests of number 1 allow, and `openOf` asks
+-- for none beyond 65,536.
 use Prim.Native.Nat.{ℕ, _≤_, _<_}
 use mathlib.Core.List.{List}
 use mathlib.Core.Path.{_≡_}
@@ -8,15 +9,11 @@ use Rattle.ladder_text.specs.Place.{lineText}
 use Rattle.ladder_text.specs.Laws.{RowFits}
 use Rattle.ladder_text.specs.declared.types.Row.{Row}
 use Rattle.ladder_text.specs.declared.types.Verdict.{Verdict}
-use Rattle.ladder_run.specs.Row.{ROWS-MOST, outOf}
+use Rattle.ladder_run.specs.Row.{ROWS-MOST, COUNT-MOST, outOf}
 use Rattle.ladder_run.specs.Line.{lineOf}
 use Rattle.ladder_run.specs.declared.types.Ladder.{Ladder}
 use Rattle.ladder_run.specs.declared.types.Due.the-variants as due
 use Rattle.ladder_run.specs.declared.types.Line.the-variants as line
-
--- "takes counts to 65,536"
-abbrev pub COUNT-MOST : ℕ
-COUNT-MOST = 65_536
 
 -- 5 digits, 5, 4 and 1; a fate of 5 letters; a receiver's word of 9; a tab or line feed behind each
 abbrev pub ROW-MOST : ℕ
@@ -33,11 +30,11 @@ pub record SmallRow (r : Row) : Type 0 where
 
 -- a frame asked for; fates, sent data, received data
 abbrev pub SmallOuts : Type 0
-SmallOuts = (l : Ladder) (fs d b : List ℕ) (r : Row) → length d ≤ COUNT-MOST → outOf l fs d b .due ≡ due.Row r → SmallRow r
+SmallOuts = (l : Ladder) (fs d b : List ℕ) (r : Row) → outOf l fs d b .due ≡ due.Row r → SmallRow r
 
 -- a line
 abbrev pub SmallLines : Type 0
-SmallLines = (l : Ladder) (fs d b : List ℕ) (r : Row) → length d ≤ COUNT-MOST → lineOf l fs d b .line ≡ line.Row r → SmallRow r
+SmallLines = (l : Ladder) (fs d b : List ℕ) (r : Row) → lineOf l fs d b .line ≡ line.Row r → SmallRow r
 
 -- a verdict of numbers that short: 9 letters, 3 digits, and three times 5
 abbrev pub VERDICT-MOST : ℕ

@@ -3,7 +3,7 @@ ghost use mathlib.Core.Path.{_≡_};
 ghost use Rattle.sender_steps.specs.Record as sender;
 ghost use Rattle.initiator.specs.WriteRecord as initiator;
 ghost use Rattle.link.specs.Ports.{lending, Signal};
-ghost use Rattle.ladder_run.specs.Ends.{onto, asked, arrived, askOf, signalledOf, arriveOf, filledOf};
+ghost use Rattle.ladder_run.specs.Ends.{onto, asked, arrived, askOf, signalledOf, arriveOf, filledOf, pastOf};
 ghost use Rattle.ladder_run.specs.declared.types.Sending.the-variants as sending;
 use crate::types::Arrived;
 use crate::types::Asked;
@@ -91,6 +91,23 @@ pub(crate) fn arrive(r: Receiving, frame: &[u8], buffer: &mut [u8]) -> Arrived
                 receiving: Receiving::Write(left),
                 answer: answer,
             }
+        }
+    }
+}
+
+// Start plus count of the transfer at the sending end.
+pub(crate) fn past(s: Sending) -> usize
+    ensures { λ n. ⌜ n ≡ pastOf s ⌝ }
+{
+    match s {
+        Sending::Read(x) => {
+            let t = x.transfer;
+            t.past()
+        }
+        Sending::Write(x) => {
+            let y = x.sender;
+            let t = y.transfer;
+            t.past()
         }
     }
 }

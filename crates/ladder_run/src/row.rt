@@ -110,12 +110,15 @@ fn silent(r: Report) -> bool
     }
 }
 
-// The sending port has reported nothing, and a row more can be told.
+// The sending port has reported nothing, a row more can be told, and no data offset passes 65,535.
 fn open(l: Ladder) -> bool
     ensures { λ x. ⌜ x ≡ openOf l ⌝ }
 {
     let report = l.report;
-    silent(report) & (l.frames < Ladder::ROWS_MOST)
+    let quiet = silent(report);
+    let sending = l.sending;
+    let past = ends::past(sending);
+    quiet & (l.frames < Ladder::ROWS_MOST) & (past <= Ladder::PAST_MOST)
 }
 
 // Frame f was handed out by a port that is left as s.

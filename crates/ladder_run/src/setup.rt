@@ -33,6 +33,7 @@ fn transfer(r: Run, write: bool, local: u32, remote: u32) -> Transfer
         sas2: false,
         value: 0,
         irt: 0,
+        start: 0,
     }
 }
 

@@ -43,6 +43,9 @@ impl Ladder {
     // the byte count at most
     pub const COUNT_MOST: u32 = 65_536;
 
+    // start plus count at most
+    pub const PAST_MOST: usize = 65_536;
+
     // hashed addresses of the two ports, and the tag
     pub const INITIATOR: u32 = 0x12_3456;
 

@@ -24,8 +24,8 @@ use Rattle.receiver.proofs.Views.{Kept, never-fails, reaches}
 use Rattle.link.specs.Ports.{Ports}
 use Rattle.link.specs.Tally.{Confirmation}
 use Rattle.link.specs.World.{World, Event, arrivesWhole, arrivesDamaged, losesFrame, step}
-use Rattle.link.proofs.Grid.{at-next, at-least, at-below, room-some, room-fits}
-use Rattle.link.proofs.Setting.{Setting, Takes, place, within, space, header, data-of, data-length, in-range, can-write, piece, sized}
+use Rattle.link.proofs.Grid.{at-next, at-below, room-some, room-fits}
+use Rattle.link.proofs.Setting.{Setting, Takes, place, within, space, header, data-of, low, begin-least, data-length, in-range, can-write, piece, sized}
 use Rattle.link.proofs.Simulates.{Simulates, Addressed}
 use Rattle.link.proofs.Flight.{Flight, uncons, ordered, AllAck, SomeNak, ack-joins, nak-stays, nak-joins}
 use Rattle.link.proofs.Placed.{placed-under, placed-in, placed-over}
@@ -38,6 +38,10 @@ by-lt a b = go (decLt a b)
     go : Dec (a < b) → (a < b) ⊎ (b ≤ a)
     go (yes h) = inl h
     go (no h) = inr (omega arith)
+
+-- a byte of a frame that begins at p, counted from o
+from : (o p i : ℕ) → o ≤ p → p ≤ i → (p - o) + (i - p) ≡ i - o
+from o p i a b = omega arith
 
 module _ {P : Ports} (S : Setting) (M : Simulates P (S .tptt)) (w : World P) (l : Live S M w) where
   open Live l using (s, r, c, k, m, j, R, sends, ported, stored, reached, marked, linked, pending, counted, standing, silent)
@@ -87,18 +91,12 @@ module _ {P : Ports} (S : Setting) (M : Simulates P (S .tptt)) (w : World P) (l 
     r-end : r .end ≡ S .end
     r-end = ported .take-for .end
 
-    received-size : length (w .received) ≡ r .transfer .count
-    received-size = stored .size ∙ sym (S .count) ∙ sym (ap (λ (u : Transfer). u .count) (ported .take-for .transfer))
-
     lent : lentOf r (length (w .received)) ≡ true
-    lent = lent-again r (length (w .received)) (ported .r-holds) received-size
+    lent = lent-again r (length (w .received)) (ported .r-holds) (rw (ported .take-for .transfer, stored .size) (S .long))
 
     iu-size : length iu ≡ space S k
     unfolding iu
     iu-size = data-length S k first-in
-
-    low : S .base ≤ place S k
-    low = at-least (S .base) (S .end) (S .t .size) (sized S) k (omega (arith, S .some))
 
     high : place S k + length iu ≤ S .end
     high = omega (arith, iu-size, room-fits (S .base) (S .end) (S .t .size) (sized S) k first-in)
@@ -107,7 +105,7 @@ module _ {P : Ports} (S : Setting) (M : Simulates P (S .tptt)) (w : World P) (l 
     kept =
         never-fails r (place S k) c (length iu) (length (w .received)) lent (ported .r-open)
         (rw (ported .take-for .transfer) (S .u-on))
-        (omega (arith, low, r-base))
+        (omega (arith, low S k, r-base))
         (omega (arith, high, r-end))
         (omega (arith, iu-size, room-some (S .base) (S .end) (S .t .size) (sized S) k first-in))
         (λ e. rw (linked .pointed e) reached)
@@ -157,7 +155,7 @@ module _ {P : Ports} (S : Setting) (M : Simulates P (S .tptt)) (w : World P) (l 
       b′ = placed (w .received) (place S k) iu
 
       fits : place S k + length iu ≤ length (w .received)
-      fits = omega (arith, high, S .end-most, stored .size)
+      fits = omega (arith, high, S .reach, stored .size)
 
       stored-more : Stored S (w .sent) b′ (max (r .filled) (place S k + length iu))
       unfolding b′ iu
@@ -169,19 +167,18 @@ module _ {P : Ports} (S : Setting) (M : Simulates P (S .tptt)) (w : World P) (l 
             rest = λ i. ⊎-elim (λ h. under i h) (λ h. beyond i h);
           }
         where
-          right : (i : ℕ) → S .base ≤ i → i < max (r .filled) (place S k + length iu) → (i < place S k) ⊎ (place S k ≤ i) → (i < place S k + length iu) ⊎ (place S k + length iu ≤ i) → getD b′ i 0 ≡ getD (S .source) i 0
+          right : (i : ℕ) → S .base ≤ i → i < max (r .filled) (place S k + length iu) → (i < place S k) ⊎ (place S k ≤ i) → (i < place S k + length iu) ⊎ (place S k + length iu ≤ i) → getD b′ i 0 ≡ getD (S .source) (i - S .start) 0
           right i lo hi (inl p) q = placed-under (w .received) iu (place S k) fits i p ∙ stored .right i lo (omega arith)
           right i lo hi (inr p) (inl q) =
-              let e : place S k + (i - place S k) ≡ i = omega arith in
               let n : i - place S k < space S k = omega (arith, iu-size) in
               placed-in (w .received) iu (place S k) fits i p q
-              ∙ getD-take (space S k) (drop (place S k) (S .source)) (i - place S k) 0 n
-              ∙ getD-drop (place S k) (S .source) (i - place S k) 0
-              ∙ ap (λ (v : ℕ). getD (S .source) v 0) e
+              ∙ getD-take (space S k) (drop (place S k - S .start) (S .source)) (i - place S k) 0 n
+              ∙ getD-drop (place S k - S .start) (S .source) (i - place S k) 0
+              ∙ ap (λ (v : ℕ). getD (S .source) v 0) (from (S .start) (place S k) i (begin-least S k) p)
           right i lo hi (inr p) (inr q) = placed-over (w .received) iu (place S k) fits i q ∙ stored .right i lo (omega arith)
 
           under : (i : ℕ) → i < S .base → getD b′ i 0 ≡ getD (S .before) i 0
-          under i h = placed-under (w .received) iu (place S k) fits i (omega (arith, low)) ∙ stored .rest i (inl h)
+          under i h = placed-under (w .received) iu (place S k) fits i (omega (arith, low S k)) ∙ stored .rest i (inl h)
 
           beyond : (i : ℕ) → max (r .filled) (place S k + length iu) ≤ i → getD b′ i 0 ≡ getD (S .before) i 0
           beyond i h = placed-over (w .received) iu (place S k) fits i (omega arith) ∙ stored .rest i (inr (omega arith))

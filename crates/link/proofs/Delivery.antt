@@ -1,9 +1,9 @@
 -- The delivery claim for any pair of ports that simulate the two cores: the invariant is kept by every allowed event, and gives the claim.
-use Prim.Native.Nat.{ℕ, _≤_, _<_}
+use Prim.Native.Nat.{ℕ, _+_, _-_, _≤_, _<_}
 use mathlib.Core.List.{List, [], _∷_}
 use mathlib.Core.Bool.{true, false}
 use mathlib.Core.Logic.{_⊎_, inl, inr, ⊎-elim}
-use mathlib.Core.Path.{_≡_, refl, sym, ap, subst, _∙_}
+use mathlib.Core.Path.{_≡_, refl, sym, ap, ap₂, subst, _∙_}
 use native.Mathlib.Omega.{arith}
 use lib.ListN.{length, getD}
 use Rattle.sender.specs.Transmit.{nextOf}
@@ -59,7 +59,7 @@ module _ {P : Ports} (S : Setting) (M : Simulates P (S .tptt)) where
 
   -- ── the invariant gives the claim ──
   abbrev pub burst : BurstParameters
-  burst = record { base = S .base; end = S .end; size = S .t .size; limit = S .limit }
+  burst = record { start = S .start; base = S .base; end = S .end; size = S .t .size; limit = S .limit }
 
   -- while nothing is reported a frame is due whenever none is unanswered
   never-stuck : (w : World P) → Live S M w → Concluded w → ⊥
@@ -96,7 +96,7 @@ module _ {P : Ports} (S : Setting) (M : Simulates P (S .tptt)) where
           stored = λ q. none-told (w .report) (l .silent) (q .0) (q .1);
           untouched = (
             λ i. ⊎-elim (λ h. st .rest i (inl h) ∙ ap (λ (b : List ℕ). getD b i 0) (sym (from .1))) (λ h. st .rest i (inr (omega arith)) ∙ ap (λ (b : List ℕ). getD b i 0) (sym (from .1))),
-            st .size ∙ sym (S .before-length) ∙ ap length (sym (from .1)),
+            st .size ∙ ap length (sym (from .1)),
             st .source ∙ sym (from .0),
           );
           bounded = within-bound S (l .counted) (j-most S (l .j) (l .marked .all-in));
@@ -107,7 +107,7 @@ module _ {P : Ports} (S : Setting) (M : Simulates P (S .tptt)) where
 
     -- what was reported says all
     module _ (w : World P) where
-      said-right : {q : Report} → Reported S M (w .received) (w .handed) (w .tally .faults) q → (n : ℕ) → q ≡ Report.delivered n → (i : ℕ) → S .base ≤ i → i < S .end → getD (w .received) i 0 ≡ getD (S .source) i 0
+      said-right : {q : Report} → Reported S M (w .received) (w .handed) (w .tally .faults) q → (n : ℕ) → q ≡ Report.delivered n → (i : ℕ) → S .base ≤ i → i < S .end → getD (w .received) i 0 ≡ getD (S .source) (i - S .start) 0
       said-right (Reported.delivers h) n e = h
       said-right (Reported.fails f lo hi p) n e = differ (cc)
 
@@ -121,12 +121,15 @@ module _ {P : Ports} (S : Setting) (M : Simulates P (S .tptt)) where
       said-report (Reported.delivers h) e = inl (length (w .handed), e)
       said-report (Reported.fails f lo hi p) e = inr ((f, (length (w .handed), e, lo, hi)), p)
 
+    back : (i : ℕ) → (S .start + i) - S .start ≡ i
+    back i = omega arith
+
     done-claims : (w : World P) → Done S M w → Delivers burst start w
     done-claims w d =
         record {
-          stored = λ q i lo hi. said-right w (d .reported) (q .0) (q .1) i lo hi ∙ ap (λ (b : List ℕ). getD b i 0) (sym (from .0));
+          stored = λ q i lo hi. said-right w (d .reported) (q .0) (q .1) (S .start + i) lo hi ∙ ap₂ (λ (b : List ℕ) (k : ℕ). getD b k 0) (sym (from .0)) (back i);
           untouched =
-              (λ i h. d .rest i h ∙ ap (λ (b : List ℕ). getD b i 0) (sym (from .1)), d .size ∙ sym (S .before-length) ∙ ap length (sym (from .1)), d .source ∙ sym (from .0));
+              (λ i h. d .rest i h ∙ ap (λ (b : List ℕ). getD b i 0) (sym (from .1)), d .size ∙ ap length (sym (from .1)), d .source ∙ sym (from .0));
           bounded = d .bounded;
           counted = said-count w (d .reported);
           concluded = λ h. ⊎-elim (λ a. inl a) (λ a. inr (a .0)) (said-report w (d .reported) refl);

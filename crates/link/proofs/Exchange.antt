@@ -173,6 +173,7 @@ module _ (x : Writer) (y : Target) (out d b : List ℕ) (n : ℕ) (hx : holdsOf 
       record {
         t = x .sender .transfer;
         u = y .receiver .transfer;
+        start = 0;
         base = base;
         end = end;
         tptt = issuedOf y .tptt;
@@ -181,19 +182,21 @@ module _ (x : Writer) (y : Target) (out d b : List ℕ) (n : ℕ) (hx : holdsOf 
         before = b;
         t-limits = held x hx .core .limits-hold;
         u-limits = receiver.limits-again (y .receiver) (y-held .core);
-        count = sym (al .count);
+        starts = held x hx .from-0;
         there = al .there;
         back = al .back;
         tag = al .tag;
         tag-bits = al .tag-bits;
         tptt-bits = omega (arith, tag-most y (handed .holds));
         some = some;
-        end-most = end-most;
+        base-least = omega arith;
+        end-most = omega (arith, end-most);
         on = on;
         limit-most = omega arith;
         u-on = omega (arith, on, al .limit);
         source-length = dl;
-        before-length = bl;
+        long = receiver.write-long (y .receiver .transfer) (length b) (y-held .write) (bl ∙ al .count);
+        reach = omega (arith, end-most, bl);
       }
 
   begins : Live setting (write-simulates (issuedOf y .tptt)) (fresh writePorts writer (acknowledgedOf (issuedOf y)) d b)
@@ -218,7 +221,7 @@ module _ (x : Writer) (y : Target) (out d b : List ℕ) (n : ℕ) (hx : holdsOf 
         r-holds = ready-holds .core;
         r-open = acked .ended;
       })
-      (record { source = refl; size = bl; right = λ i lo hi. absurd (omega arith); rest = λ i h. refl }) (omega arith)
+      (record { source = refl; size = refl; right = λ i lo hi. absurd (omega arith); rest = λ i h. refl }) (omega arith)
       (record { next-at = omega arith; balance-at = omega arith; restart-in = omega arith; all-in = λ i h. absurd (omega arith); from-base = λ q. refl })
       (record { flight = Flight.none; pointed = λ q. refl; from = omega arith; conserved = refl; same = refl })
       (record { nak-owed = λ q. absurd (false≢true q); begun = λ q. absurd (omega arith); undone = λ v e. omega arith })
@@ -236,6 +239,7 @@ module _ (x : Writer) (y : Target) (out d b : List ℕ) (n : ℕ) (hx : holdsOf 
   pub write-delivers :
       Always
       (record {
+        start = 0;
         base = nextOf y out .left .receiver .base;
         end = nextOf y out .left .receiver .end;
         size = x .sender .transfer .size;
@@ -243,7 +247,7 @@ module _ (x : Writer) (y : Target) (out d b : List ℕ) (n : ℕ) (hx : holdsOf 
       })
       (fresh writePorts (writeArrivalOf x (xferRdySent y out n) .left) (ackOf (nextOf y out .left) .left) d b)
   write-delivers =
-      start-as (λ lo hi. Always (record { base = lo; end = hi; size = x .sender .transfer .size; limit = x .sender .transfer .limit }))
+      start-as (λ lo hi. Always (record { start = 0; base = lo; end = hi; size = x .sender .transfer .size; limit = x .sender .transfer .limit }))
       (delivers setting (write-simulates (issuedOf y .tptt)) _ (refl, refl) (inl begins))
 
   -- with the report of delivery the target's filled mark is the burst's end

@@ -1,6 +1,6 @@
 -- What holds of the world while the sending port has reported nothing (Live), and once it has (Done).
 -- The groups speak of field values, so an event that leaves a value alone leaves the group as it is.
-use Prim.Native.Nat.{ℕ, suc, _+_, _*_, _≤_, _<_}
+use Prim.Native.Nat.{ℕ, suc, _+_, _-_, _*_, _≤_, _<_}
 use mathlib.Core.List.{List, []}
 use mathlib.Core.Bool.{Bool, true, false}
 use mathlib.Core.Logic.{_⊎_}
@@ -21,8 +21,8 @@ module _ (S : Setting) where
   -- what is stored is right: below the filled mark the sender's bytes, else as at the start
   pub record Stored (sent received : List ℕ) (filled : ℕ) : Type 0 where
     pub source : sent ≡ S .source
-    pub size : length received ≡ S .t .count
-    pub right : (i : ℕ) → S .base ≤ i → i < filled → getD received i 0 ≡ getD (S .source) i 0
+    pub size : length received ≡ length (S .before)
+    pub right : (i : ℕ) → S .base ≤ i → i < filled → getD received i 0 ≡ getD (S .source) (i - S .start) 0
     pub rest : (i : ℕ) → (i < S .base) ⊎ (filled ≤ i) → getD received i 0 ≡ getD (S .before) i 0
 
   -- next offset and restart point by frame numbers j and m
@@ -109,7 +109,7 @@ module _ (S : Setting) where
 
     -- what was reported: delivery of every byte, or a failure that took more faults than the limit
     pub data Reported (received : List ℕ) (handed : List (List ℕ)) (faults : ℕ) : Report → Type 0 where
-      delivers : ((i : ℕ) → S .base ≤ i → i < S .end → getD received i 0 ≡ getD (S .source) i 0) → Reported received handed faults (Report.delivered (length handed))
+      delivers : ((i : ℕ) → S .base ≤ i → i < S .end → getD received i 0 ≡ getD (S .source) (i - S .start) 0) → Reported received handed faults (Report.delivered (length handed))
       fails : (f : ℕ) → 28 ≤ f → f ≤ 30 → S .limit < faults → Reported received handed faults (Report.failed f (length handed))
 
     -- nothing moves any more
@@ -123,14 +123,14 @@ module _ (S : Setting) where
       pub no-answers : w .confirmations ≡ []
       pub none-open : w .tally .unanswered ≡ 0
       pub source : w .sent ≡ S .source
-      pub size : length (w .received) ≡ S .t .count
+      pub size : length (w .received) ≡ length (S .before)
       pub rest : (i : ℕ) → (i < S .base) ⊎ (S .end ≤ i) → getD (w .received) i 0 ≡ getD (S .before) i 0
       pub bounded : length (w .handed) ≤ enough S * (1 + w .tally .faults)
       pub reported : Reported (w .received) (w .handed) (w .tally .faults) (w .report)
 
     pub done : {w : World P} (s : Sender) → M .SendsAs (w .sending) s → Sends S s → holdsOf s ≡ true →
         (s .ended ≡ true) ⊎ ((s .ended ≡ false) × (s .unanswered ≡ 0) × (s .next ≡ s .burst .end)) → w .frames ≡ [] → w .confirmations ≡ [] → w .tally .unanswered ≡ 0 → w .sent ≡ S .source →
-        length (w .received) ≡ S .t .count → ((i : ℕ) → (i < S .base) ⊎ (S .end ≤ i) → getD (w .received) i 0 ≡ getD (S .before) i 0) →
+        length (w .received) ≡ length (S .before) → ((i : ℕ) → (i < S .base) ⊎ (S .end ≤ i) → getD (w .received) i 0 ≡ getD (S .before) i 0) →
         length (w .handed) ≤ enough S * (1 + w .tally .faults) → Reported (w .received) (w .handed) (w .tally .faults) (w .report) → Done w
     done s h f sh re nf na op so si rs bo rp =
         record { s = s; sends = h; send-for = f; s-holds = sh; rests = re; no-frames = nf; no-answers = na; none-open = op; source = so; size = si; rest = rs; bounded = bo; reported = rp }

@@ -27,3 +27,4 @@ pub mod EndedRefuses
 pub mod OneFault
 pub mod CarriesValue
 pub mod ResponseTimeout
+pub mod OnlyTheRead

@@ -21,7 +21,7 @@ module _ (S : Setting) where
   enough-most : enough S ≤ 16_778_239
   enough-most =
       let b = limits S in
-      omega (arith, needed-most (S .base) (S .end) (S .t .size) (sized S), S .end-most, b .count-most, b .size-most)
+      omega (arith, needed-most (S .base) (S .end) (S .t .size) (sized S), S .end-most, S .starts, b .past-most, b .size-most)
 
   -- the frame count stays far below 2 to the power 60
   pub few : {frames retries faults R m j : ℕ} {handed : List (List ℕ)} → Counted S frames retries handed faults R m j → retries ≤ S .limit → within S m → j ≤ enough S → frames + 1 < 2 ^ 60

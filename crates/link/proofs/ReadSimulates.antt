@@ -165,6 +165,10 @@ read-simulates tptt =
     }
 
 -- each record stands for itself
+pub read-is : (tptt : ℕ) (x s : Sender) → read-simulates tptt .SendsAs x s → x ≡ s
+unfolding read-simulates
+read-is tptt x s a = a .is
+
 pub read-sends : (tptt : ℕ) (s : Sender) → s .transfer .write ≡ false → read-simulates tptt .SendsAs s s
 unfolding read-simulates
 read-sends tptt s v = record { is = refl; read = v }

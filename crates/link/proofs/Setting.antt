@@ -1,5 +1,5 @@
 -- One burst between two ports that are set up alike: what stays through a run, and its frames by number.
-use Prim.Native.Nat.{ℕ, _-_, _^_, min, _≤_, _<_}
+use Prim.Native.Nat.{ℕ, _+_, _-_, _^_, min, _≤_, _<_}
 use mathlib.Core.List.{List}
 use mathlib.Core.Bool.{Bool, true, false}
 use mathlib.Core.Path.{_≡_, refl, sym, ap, ap₂, subst, _∙_}
@@ -17,13 +17,16 @@ use Rattle.status.specs.Pick.{pick}
 use Rattle.sender_steps.specs.Transmit.{frameOf, dataHeader, lesser, partOf}
 use Rattle.sender_steps.specs.declared.types.Burst.{Burst}
 use Rattle.sender_steps.specs.declared.types.Sender.{Sender}
+use Rattle.receiver_steps.specs.Record.{rightLength}
 use Rattle.receiver_steps.specs.declared.types.Receiver.{Receiver}
-use Rattle.link.proofs.Grid.{Inside, at, room, at-below, at-most, room-fits, needed}
+use Rattle.link.proofs.Grid.{Inside, at, room, at-least, at-below, at-most, room-fits, needed}
 
 pub record Setting : Type 0 where
   -- the sending port's transfer and the receiving port's
   pub t : Transfer
   pub u : Transfer
+  -- where the sending buffer begins in the receiving one
+  pub start : ℕ
   pub base : ℕ
   pub end : ℕ
   pub tptt : ℕ
@@ -34,19 +37,21 @@ pub record Setting : Type 0 where
   pub before : List ℕ
   pub t-limits : limitsHold t ≡ true
   pub u-limits : limitsHold u ≡ true
-  pub count : u .count ≡ t .count
+  pub starts : t .start ≡ start
   pub there : t .remote ≡ u .local
   pub back : t .local ≡ u .remote
   pub tag : t .tag ≡ u .tag
   pub tag-bits : t .tag < 2 ^ 16
   pub tptt-bits : tptt < 2 ^ 16
   pub some : base < end
-  pub end-most : end ≤ t .count
+  pub base-least : start ≤ base
+  pub end-most : end ≤ start + t .count
   pub on : 1 ≤ limit
   pub limit-most : limit ≤ t .limit
   pub u-on : 0 < u .limit
   pub source-length : length source ≡ t .count
-  pub before-length : length before ≡ t .count
+  pub long : rightLength u (length before) ≡ true
+  pub reach : end ≤ length before
 
 -- the record's constants are the setting's
 pub record SendsFor (S : Setting) (t′ : Transfer) (b : Burst) : Type 0 where
@@ -100,16 +105,23 @@ module _ (S : Setting) where
       }
 
   abbrev pub data-of : ℕ → List ℕ
-  data-of i = take (space i) (drop (place i) (S .source))
+  data-of i = take (space i) (drop (place i - S .start) (S .source))
 
   unfoldable pub piece : Bool → ℕ → List ℕ
   piece c i = encode (header c i) (data-of i)
 
+  -- every frame begins in the burst
+  pub low : (i : ℕ) → S .base ≤ place i
+  low i = at-least (S .base) (S .end) (S .t .size) sized i (omega (arith, S .some))
+
+  pub begin-least : (i : ℕ) → S .start ≤ place i
+  begin-least i = omega (arith, S .base-least, low i)
+
   pub data-length : (i : ℕ) → within i → length (data-of i) ≡ space i
-  data-length i h = rw (length-take, length-drop, S .source-length) (omega (arith, S .end-most, room-fits (S .base) (S .end) (S .t .size) sized i h))
+  data-length i h = rw (length-take, length-drop, S .source-length) (omega (arith, S .end-most, begin-least i, room-fits (S .base) (S .end) (S .t .size) sized i h))
 
   pub in-range : (c : Bool) (i : ℕ) → InRange (header c i)
-  in-range c i = record { tag = S .tag-bits; tptt = S .tptt-bits; offset = omega (arith, S .end-most, limits .count-most, at-most (S .base) (S .end) (S .t .size) sized i) }
+  in-range c i = record { tag = S .tag-bits; tptt = S .tptt-bits; offset = omega (arith, S .end-most, S .starts, limits .past-most, at-most (S .base) (S .end) (S .t .size) sized i) }
 
   pub can-write : (c : Bool) (i : ℕ) → within i → writable (header c i) (length (data-of i)) ≡ true
   can-write c i h =
@@ -120,6 +132,7 @@ module _ (S : Setting) where
   pub frame-is : (s : Sender) (j : ℕ) → Sends S s → s .next ≡ place j → frameOf s (S .source) ≡ piece (s .cdp) j
   unfolding frameOf dataHeader piece
   frame-is s j c e i =
+      let o = ap (λ (v : Transfer). v .start) (c .transfer) ∙ S .starts in
       encode
       (record {
         frametype = DATA;
@@ -130,4 +143,4 @@ module _ (S : Setting) where
         tptt = c .tptt i;
         offset = e i;
       })
-      (take (min (c .transfer i .size) (c .end i - e i)) (drop (e i) (S .source)))
+      (take (min (c .transfer i .size) (c .end i - e i)) (drop (e i - o i) (S .source)))

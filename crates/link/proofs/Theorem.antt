@@ -11,7 +11,7 @@ use Rattle.status.specs.Pick.{pick, all}
 use Rattle.status.specs.Result.{Result, granted}
 use Rattle.status.proofs.Opened.{differ}
 use Rattle.status.proofs.Choose.{each}
-use Rattle.transfer.specs.Limits.{limitsHold}
+use Rattle.transfer.specs.Limits.{past, limitsHold}
 use Rattle.transfer.specs.declared.Transfer.{Transfer}
 use Rattle.transfer.proofs.Bounds.{bounds}
 use Rattle.sender.specs.Record as sender
@@ -21,6 +21,7 @@ use Rattle.sender.proofs.Kept as sender-kept
 use Rattle.receiver.specs.Record as receiver
 use Rattle.receiver_steps.specs.Record as receiver-step
 use Rattle.receiver_steps.specs.declared.types.Receiver.{Receiver}
+use Rattle.receiver_steps.proofs.Held.{read-long}
 use Rattle.receiver.proofs.Kept as receiver-kept
 use Rattle.link.specs.Ports.{Ports}
 use Rattle.link.specs.World.{World, Report}
@@ -45,40 +46,43 @@ read-only : (w : Bool) → not w ≡ true → w ≡ false
 read-only true e = absurd (false≢true e)
 read-only false e = refl
 
-module _ (t u : Transfer) (d b : List ℕ) (tl : limitsHold t ≡ true) (tr : t .write ≡ false) (ul : limitsHold u ≡ true) (ur : u .write ≡ false) (a : Alike t u) (on : 1 ≤ t .limit) (dl : length d ≡ t .count) (bl : length b ≡ t .count) where
+module _ (t u : Transfer) (d b : List ℕ) (tl : limitsHold t ≡ true) (tr : t .write ≡ false) (ul : limitsHold u ≡ true) (ur : u .write ≡ false) (a : Alike t u) (on : 1 ≤ t .limit) (dl : length d ≡ t .count) (bl : past t ≤ length b) where
   abbrev setting : Setting
   setting =
       record {
         t = t;
         u = u;
-        base = 0;
-        end = t .count;
+        start = t .start;
+        base = t .start;
+        end = past t;
         tptt = t .value;
         limit = t .limit;
         source = d;
         before = b;
         t-limits = tl;
         u-limits = ul;
-        count = sym (a .count);
+        starts = refl;
         there = a .there;
         back = a .back;
         tag = a .tag;
         tag-bits = a .tag-bits;
         tptt-bits = a .value-bits;
-        some = bounds t tl .count-least;
+        some = omega (arith, bounds t tl .count-least);
+        base-least = omega arith;
         end-most = omega arith;
         on = on;
         limit-most = omega arith;
         u-on = omega (arith, a .limit);
         source-length = dl;
-        before-length = bl;
+        long = read-long u (length b) ur (omega (arith, a .start, a .count));
+        reach = bl;
       }
 
   abbrev sent-of : Sender
   sent-of = sender-step.beginning t (sender.whole t)
 
   abbrev got-of : Receiver
-  got-of = receiver-step.beginning u 0 (u .count)
+  got-of = receiver-step.beginning u (u .start) (past u)
 
   begins : Live setting (read-simulates (t .value)) (fresh readPorts sent-of got-of d b)
   unfolding pick
@@ -89,13 +93,13 @@ module _ (t u : Transfer) (d b : List ℕ) (tl : limitsHold t ≡ true) (tr : t 
       (record {
         takes = read-takes (t .value) got-of ur;
         send-for = record { transfer = refl; limit = refl; tptt = ap (λ (v : Bool). pick v 0 (t .value)) tr; base = refl; end = refl };
-        take-for = record { transfer = refl; base = refl; end = sym (a .count) };
-        s-holds = sender-kept.begins-holds t (sender.whole t) tl (omega arith) (omega arith) (omega arith);
+        take-for = record { transfer = refl; base = sym (a .start); end = omega (arith, a .start, a .count) };
+        s-holds = sender-kept.begins-holds t (sender.whole t) tl (omega arith) (omega arith) (omega arith) (omega arith);
         s-open = refl;
-        r-holds = receiver-kept.begins-holds u 0 (u .count) ul (omega arith) (omega arith);
+        r-holds = receiver-kept.begins-holds u (u .start) (past u) ul (omega arith) (omega arith) (omega arith);
         r-open = refl;
       })
-      (record { source = refl; size = bl; right = λ i lo hi. absurd (omega arith); rest = λ i h. refl }) (omega arith)
+      (record { source = refl; size = refl; right = λ i lo hi. absurd (omega arith); rest = λ i h. refl }) (omega arith)
       (record { next-at = omega arith; balance-at = omega arith; restart-in = omega (arith, lt .count-least); all-in = λ i h. absurd (omega arith); from-base = λ q. refl })
       (record { flight = Flight.none; pointed = λ q. refl; from = omega arith; conserved = refl; same = refl })
       (record { nak-owed = λ q. absurd (false≢true q); begun = λ q. absurd (omega arith); undone = λ q e. omega (arith, lt .count-least) })
@@ -104,7 +108,7 @@ module _ (t u : Transfer) (d b : List ℕ) (tl : limitsHold t ≡ true) (tr : t 
 
 -- what holds of both ports as they begin holds of those that were set up
 set-up-as : (t u : Transfer) (s : Sender) (r : Receiver) (d b : List ℕ) (Q : World readPorts → Type 0) → sender.setUpReadOf t ≡ Result.value s → receiver.setUpReadOf u ≡ Result.value r →
-    (limitsHold t ≡ true → t .write ≡ false → limitsHold u ≡ true → u .write ≡ false → Q (fresh readPorts (sender-step.beginning t (sender.whole t)) (receiver-step.beginning u 0 (u .count)) d b)) → Q (fresh readPorts s r d b)
+    (limitsHold t ≡ true → t .write ≡ false → limitsHold u ≡ true → u .write ≡ false → Q (fresh readPorts (sender-step.beginning t (sender.whole t)) (receiver-step.beginning u (u .start) (past u)) d b)) → Q (fresh readPorts s r d b)
 set-up-as t u s r d b Q hs hr f =
     let x = set-up (all (sender.setUpTests t)) _ s hs in
     let y = set-up (all (receiver.setUpTests u)) _ r hr in
@@ -114,13 +118,13 @@ set-up-as t u s r d b Q hs hr f =
 
 pub delivery : DeliveryClaim
 delivery P x b w (Starts.read t u s r d e hs hr a on dl bl) =
-    set-up-as t u s r d e (Always (record { base = 0; end = t .count; size = t .size; limit = t .limit })) hs hr
+    set-up-as t u s r d e (Always (record { start = t .start; base = t .start; end = past t; size = t .size; limit = t .limit })) hs hr
     (λ tl tr ul ur. delivers (setting t u d e tl tr ul ur a on dl bl) (read-simulates (t .value)) _ (refl, refl) (inl (begins t u d e tl tr ul ur a on dl bl)))
 delivery P z b w (Starts.write x y out d e n hx ox zx a on dl el hands took acks) = write-delivers x y out d e n hx ox zx a on dl el hands took acks
 
--- with the report of a read's delivery the initiator's filled mark is the byte count
+-- with the report of a read's delivery the initiator's filled mark is start plus count
 pub read-fills : (t u : Transfer) (s : Sender) (r : Receiver) (d b : List ℕ) → sender.setUpReadOf t ≡ Result.value s → receiver.setUpReadOf u ≡ Result.value r → Alike t u → 1 ≤ t .limit →
-    length d ≡ t .count → length b ≡ t .count → Fills {P = readPorts} (λ v. v .filled) (t .count) (fresh readPorts s r d b)
+    length d ≡ t .count → past t ≤ length b → Fills {P = readPorts} (λ v. v .filled) (past t) (fresh readPorts s r d b)
 read-fills t u s r d b hs hr a on dl bl =
-    set-up-as t u s r d b (Fills {P = readPorts} (λ v. v .filled) (t .count)) hs hr
+    set-up-as t u s r d b (Fills {P = readPorts} (λ v. v .filled) (past t)) hs hr
     (λ tl tr ul ur. fills (setting t u d b tl tr ul ur a on dl bl) (read-simulates (t .value)) (λ v. v .filled) (read-filled (t .value)) _ (inl (begins t u d b tl tr ul ur a on dl bl)))

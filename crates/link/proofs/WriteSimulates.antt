@@ -161,7 +161,7 @@ pub record TakesAs (tptt : ℕ) (y : Target) (r : Receiver) : Type 0 where
 
 module _ (tptt : ℕ) (y : Target) (h : Header) (iu b : List ℕ) (a : TakesAs tptt y (y .receiver)) (l : receiving.lentOf (y .receiver) (length b) ≡ true) (o : y .receiver .ended ≡ false) (d : Addressed tptt h (y .receiver)) (c : writable h (length iu) ≡ true) where
   lent : arrival.lentOf y (length b) ≡ true
-  lent = target-held.lent-again y (length b) (a .holds) (receiver-held.lent (y .receiver) (length b) l .size)
+  lent = target-held.lent-again y (length b) (a .holds) (receiver-held.write-size _ _ (target-held.held y (a .holds) .write) (receiver-held.lent (y .receiver) (length b) l .long))
 
   abbrev core : Left Receiver
   core = arrivalOf (y .receiver) (h .offset) (h .flags .cdp) (length iu) (length b)
@@ -268,6 +268,10 @@ write-simulates tptt =
         TakesAs tptt (arrival.writeArrivalOf y (encode h iu) (length b) .left) (arrivalOf v (h .offset) (h .flags .cdp) (length iu) (length b) .left) ×
         (storing (arrival.writeArrivalOf y (encode h iu) (length b) .says) (headerIn (encode h iu) .offset) (iuOf (encode h iu)) b ≡ storing (arrivalOf v (h .offset) (h .flags .cdp) (length iu) (length b) .says) (h .offset) iu b))
         (a .receiver) (λ l₁ o₁ d₁. takes-arrival tptt y h iu b own l₁ o₁ d₁ c) l o d
+
+pub write-is : (tptt : ℕ) (w : Writer) (s : Sender) → write-simulates tptt .SendsAs w s → w .sender ≡ s
+unfolding write-simulates
+write-is tptt w s a = a .sender
 
 pub write-sends : (tptt : ℕ) (w : Writer) (s : Sender) → WritesAs w s → write-simulates tptt .SendsAs w s
 unfolding write-simulates

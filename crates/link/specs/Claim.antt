@@ -8,6 +8,7 @@ use lib.ListN.{length, take}
 use Rattle.status.specs.Answer.{Word, Said}
 use Rattle.status.specs.Result.{Result}
 use Rattle.frame.specs.Write.{handing}
+use Rattle.transfer.specs.Limits.{past}
 use Rattle.transfer.specs.declared.Transfer.{Transfer}
 use Rattle.sender.specs.Record as sender
 use Rattle.sender_steps.specs.declared.types.Sender.{Sender}
@@ -26,8 +27,9 @@ use Rattle.link.specs.Writing.{writePorts}
 use Rattle.link.specs.World.{World, Event, run, Allowed}
 use Rattle.link.specs.Delivers.{BurstParameters, fresh, Delivers}
 
--- "both ports set up alike (limits, addresses, tag)": each one's local address is the other's remote one; a tag has 16 bits, and so has the sending port's value. A read has no
--- burst size, and a write burst's is its XFER_RDY's. Nothing is said of editions and Initiator Response Timeouts, and of values only the width
+-- "both ports set up alike (limits, addresses, tag)", with the start (request K5; in a write both are 0 by number 1): each one's local address is the other's remote one;
+-- a tag has 16 bits, and so has the sending port's value. A read has no burst size, and a write burst's is its XFER_RDY's. Nothing is said of editions and Initiator
+-- Response Timeouts, and of values only the width
 pub record Alike (t u : Transfer) : Type 0 where
   pub count : t .count ≡ u .count
   pub size : t .size ≡ u .size
@@ -38,6 +40,7 @@ pub record Alike (t u : Transfer) : Type 0 where
   pub tag : t .tag ≡ u .tag
   pub tag-bits : t .tag < 2 ^ 16
   pub value-bits : t .value < 2 ^ 16
+  pub start : t .start ≡ u .start
 
 -- Request K7: "The delivery rule takes the edition of each end as a parameter, so that any pairing delivers alike"; true is SAS-2, false SAS-1.1
 pub record Editions : Type 0 where
@@ -55,12 +58,13 @@ sas11 = record { sending = false; receiving = false }
 abbrev pub xferRdySent : Target → List ℕ → ℕ → List ℕ
 xferRdySent y out n = take n (handing (target.nextOf y out .says) (target.frameOf y) out)
 
--- "Take one read, .. retries on, both ports set up alike, none of its frames handed out yet"; any buffers of the byte count's length
+-- "Take one read, .. retries on, both ports set up alike, none of its frames handed out yet"; any sending buffer of the byte count's length and, request K5, any receiving
+-- one that "is at least that sum long"
 pub data Starts : (P : Ports) → Editions → BurstParameters → World P → Type 1 where
   read : (t u : Transfer) (s : Sender) (r : Receiver) (d b : List ℕ) →
       sender.setUpReadOf t ≡ Result.value s → receiver.setUpReadOf u ≡ Result.value r → Alike t u → 1 ≤ t .limit →
-      length d ≡ t .count → length b ≡ t .count →
-      Starts readPorts (editions t u) (record { base = 0; end = t .count; size = t .size; limit = t .limit }) (fresh readPorts s r d b)
+      length d ≡ t .count → past t ≤ length b →
+      Starts readPorts (editions t u) (record { start = t .start; base = t .start; end = past t; size = t .size; limit = t .limit }) (fresh readPorts s r d b)
   -- "or one write burst whose XFER_RDY had its ACK at the target before the first DATA frame": any well-formed records x and y that are set up alike, at any
   -- burst; the target hands out its XFER_RDY, the initiator takes those bytes with nothing unanswered, the target gets the ACK
   write : (x : Writer) (y : Target) (out d b : List ℕ) (n : ℕ) →
@@ -72,6 +76,7 @@ pub data Starts : (P : Ports) → Editions → BurstParameters → World P → T
       ackOf (target.nextOf y out .left) .says ≡ Said.word Word.acknowledged →
       Starts writePorts (editions (x .sender .transfer) (y .receiver .transfer))
       (record {
+        start = 0;
         base = target.nextOf y out .left .receiver .base;
         end = target.nextOf y out .left .receiver .end;
         size = x .sender .transfer .size;

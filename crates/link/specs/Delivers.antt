@@ -9,8 +9,9 @@ use Rattle.link.specs.Ports.{Ports}
 use Rattle.link.specs.Tally.{nothing}
 use Rattle.link.specs.World.{World, Report, Reported}
 
--- the burst that is delivered: its offsets, the data size, the retry limit
+-- the burst that is delivered: where the sending buffer begins in the receiving one, the burst's offsets, the data size, the retry limit
 pub record BurstParameters : Type 0 where
+  pub start : ℕ
   pub base : ℕ
   pub end : ℕ
   pub size : ℕ
@@ -49,12 +50,13 @@ module _ {P : Ports} where
   abbrev pub LinkFailed : World P → Type 0
   LinkFailed w = (f : ℕ) × ((n : ℕ) × (w .report ≡ Report.failed f n) × (28 ≤ f) × (f ≤ 30))
 
-  -- w after a list of events that began at start
-  pub record Delivers (b : BurstParameters) (start w : World P) : Type 0 where
-    -- 1: "if the sending port reported delivery, every byte of the burst stands in the receiving buffer as in the sending one, at the same offset"
-    pub stored : Delivered w → (i : ℕ) → b .base ≤ i → i < b .end → getD (w .received) i 0 ≡ getD (start .sent) i 0
+  -- w after a list of events that began at the world `first`
+  pub record Delivers (b : BurstParameters) (first w : World P) : Type 0 where
+    -- 1: "if the sending port reported delivery, every byte of the burst stands in the receiving buffer as in the sending one"; request K5: "byte i of the sender is at
+    -- start plus i in the receiver". In a read that is every byte of the sending buffer; in a write burst the start is 0, so it is "at the same offset"
+    pub stored : Delivered w → (i : ℕ) → b .base ≤ b .start + i → b .start + i < b .end → getD (w .received) (b .start + i) 0 ≡ getD (first .sent) i 0
     -- 2: "and no other byte changed"; "only the receiving port writes, in its own"
-    pub untouched : ((i : ℕ) → (i < b .base) ⊎ (b .end ≤ i) → getD (w .received) i 0 ≡ getD (start .received) i 0) × (length (w .received) ≡ length (start .received)) × (w .sent ≡ start .sent)
+    pub untouched : ((i : ℕ) → (i < b .base) ⊎ (b .end ≤ i) → getD (w .received) i 0 ≡ getD (first .received) i 0) × (length (w .received) ≡ length (first .received)) × (w .sent ≡ first .sent)
     -- 3: "The DATA frames handed out are at most those of a faultless transfer times one more than the faults"
     pub bounded : length (w .handed) ≤ faultless b * (1 + w .tally .faults)
     -- 4: the count in the report is the length of the history of frames

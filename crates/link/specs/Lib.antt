@@ -12,3 +12,4 @@ pub mod Resent
 pub mod EndedRefuses
 pub mod CarriesValue
 pub mod ResponseTimeout
+pub mod OnlyTheRead

@@ -1,16 +1,16 @@
 -- Every event leaves a well-formed record well-formed, with the same transfer and burst.
 use Prim.Native.Nat.{ℕ, _+_, _≤_, max}
 use mathlib.Core.Bool.{Bool, true, false}
-use mathlib.Core.Path.{_≡_, refl, sym, ap, _∙_}
+use mathlib.Core.Path.{_≡_, refl, ap, _∙_}
 use native.Mathlib.Omega.{arith}
 use Rattle.status.specs.Pick.{_with_}
 use Rattle.status.specs.Entry.{entryOf}
 use Rattle.status.specs.Answer.{Left}
 use Rattle.status.proofs.Leaves.{unless-gives}
-use Rattle.transfer.specs.Limits.{limitsHold}
+use Rattle.transfer.specs.Limits.{past, limitsHold}
 use Rattle.transfer.specs.declared.Transfer.{Transfer}
 use Rattle.receiver_steps.specs.Fields.{ended≔}
-use Rattle.receiver_steps.specs.Record.{tests, holdsOf, beginning, lentOf}
+use Rattle.receiver_steps.specs.Record.{tests, holdsOf, beginning, rightLength, lentOf}
 use Rattle.receiver.specs.Record.{lossOf}
 use Rattle.receiver_steps.specs.DataFrame.{waitingOf, storedOf}
 use Rattle.receiver.specs.DataFrame.{arrivalOf}
@@ -18,8 +18,8 @@ use Rattle.receiver_steps.specs.declared.types.Receiver.{Receiver}
 use Rattle.receiver_steps.proofs.Held.{held, holds-again, limits-again, lent, lent-again}
 use Rattle.receiver.proofs.Views.{Arrived, judges}
 
-pub begins-holds : (t : Transfer) (base end : ℕ) → limitsHold t ≡ true → base ≤ end → end ≤ t .count → holdsOf (beginning t base end) ≡ true
-begins-holds t base end l p q = holds-again (beginning t base end) l (omega arith) (omega arith) p q
+pub begins-holds : (t : Transfer) (base end : ℕ) → limitsHold t ≡ true → t .start ≤ base → base ≤ end → end ≤ past t → holdsOf (beginning t base end) ≡ true
+begins-holds t base end l o p q = holds-again (beginning t base end) l o (omega arith) (omega arith) p q
 
 pub waiting-holds : (r : Receiver) → holdsOf r ≡ true → holdsOf (waitingOf r) ≡ true
 unfolding holdsOf tests
@@ -32,7 +32,7 @@ ended-holds r h = h
 pub stored-holds : (r : Receiver) (offset n : ℕ) → holdsOf r ≡ true → r .base ≤ offset → offset + n ≤ r .end → holdsOf (storedOf r offset n) ≡ true
 stored-holds r offset n e b h =
     let g = held r e in
-    holds-again (storedOf r offset n) (limits-again r e) (omega arith) (omega arith) (omega arith) (g .end-count)
+    holds-again (storedOf r offset n) (limits-again r e) (g .start-base) (omega arith) (omega arith) (omega arith) (g .end-past)
 
 -- the same transfer and burst
 pub record Same (r s : Receiver) : Type 0 where
@@ -75,4 +75,4 @@ module _ (r : Receiver) where
   pub arrival-lent : (offset : ℕ) (cdp : Bool) (n m : ℕ) → lentOf r m ≡ true → lentOf (arrivalOf r offset cdp n m .left) m ≡ true
   arrival-lent offset cdp n m e =
       let l = lent r m e in
-      lent-again (arrivalOf r offset cdp n m .left) m (arrival-kept (l .holds) offset cdp n m) (l .size ∙ ap (λ (t : Transfer). t .count) (sym (arrival-same offset cdp n m .transfer)))
+      lent-again (arrivalOf r offset cdp n m .left) m (arrival-kept (l .holds) offset cdp n m) (ap (λ (t : Transfer). rightLength t m) (arrival-same offset cdp n m .transfer) ∙ l .long)

@@ -19,7 +19,7 @@ use Rattle.receiver.specs.DataFrame.{arrivalOf}
 use Rattle.receiver_steps.specs.declared.types.Receiver.{Receiver}
 use Rattle.receiver_steps.specs.declared.types.DataDisposition.{DataDisposition}
 use Rattle.receiver_steps.specs.declared.types.DataDisposition.the-variants.{Discard, Skip, Fail, Store}
-use Rattle.receiver_steps.proofs.Held.{Held, held, lent}
+use Rattle.receiver_steps.proofs.Held.{Held, lent}
 use Rattle.receiver_steps.proofs.Judged.{Misplaced, Inside, OutOfStep, InStep, Judged, judged}
 
 -- a frame at a port that neither 1 nor 2 refuses
@@ -55,7 +55,7 @@ module _ (r : Receiver) (offset : ℕ) (cdp : Bool) (n : ℕ) where
   -- at a port that neither 1 nor 2 refuses an arrival is the step behind them
   pub step-is : (m : ℕ) → lentOf r m ≡ true → r .ended ≡ false → arrivalOf r offset cdp n m ≡ dataStepOf r offset cdp n m
   unfolding arrivalOf dataStepOf
-  step-is m e f = let l = lent r m e in in-true _ _ _ _ (le-leb (r .end) m (omega (arith, held r (l .holds)))) (rw (open-entry (lentOf r m) (r .ended) e f))
+  step-is m e f = in-true _ _ _ _ (le-leb (r .end) m (lent r m e .reach)) (rw (open-entry (lentOf r m) (r .ended) e f))
 
   pub arrived : (m : ℕ) → lentOf r m ≡ true → r .ended ≡ false → Arrived r offset cdp n (arrivalOf r offset cdp n m)
   unfolding arrivalOf

@@ -6,7 +6,7 @@ use Rattle.status.specs.Pick.{all}
 use Rattle.status.specs.Number.{refusalNumber}
 use Rattle.status.specs.Answer.{Left, unless}
 use Rattle.status.specs.Result.{Result, granted}
-use Rattle.transfer.specs.Limits.{limitsHold}
+use Rattle.transfer.specs.Limits.{past, limitsHold}
 use Rattle.transfer.specs.declared.Transfer.{Transfer}
 use Rattle.receiver_steps.specs.Record.{holdsOf, beginning, failedOf}
 use Rattle.receiver_steps.specs.declared.types.Receiver.{Receiver}
@@ -16,9 +16,9 @@ use Rattle.receiver.specs.declared.types.ReadSetup.the-variants.{Ready, 
 abbrev pub setUpTests : Transfer → List Bool
 setUpTests t = limitsHold t ∷ not (t .write) ∷ []
 
--- "a read is one burst from 0"
+-- "a read is one burst from 0"; request K5: from its start instead, up to start plus count
 abbrev pub setUpReadOf : Transfer → Result Receiver
-setUpReadOf t = granted (all (setUpTests t)) (beginning t 0 (t .count))
+setUpReadOf t = granted (all (setUpTests t)) (beginning t (t .start) (past t))
 
 -- what the set-up answers: the record, or a number
 abbrev pub made : ReadSetup → Result Receiver

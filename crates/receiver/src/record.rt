@@ -16,7 +16,7 @@ pub fn set_up_read(t: Transfer) -> ReadSetup
 {
     let limits = t.limits_hold();
     if limits & !t.write {
-        ReadSetup::Ready(receiver_steps::begin(t, 0, t.count))
+        ReadSetup::Ready(receiver_steps::begin(t, t.start, t.past() as u32))
     } else {
         ReadSetup::Refused(Refusal::BadRequest)
     }

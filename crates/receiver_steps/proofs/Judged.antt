@@ -14,7 +14,7 @@ use Rattle.receiver_steps.specs.declared.types.Receiver.{Receiver}
 use Rattle.receiver_steps.specs.declared.types.DataDisposition.{DataDisposition}
 use Rattle.receiver_steps.specs.declared.types.DataDisposition.the-variants.{Discard, Skip, Fail, Store}
 use Rattle.status.proofs.Opened.{differ}
-use Rattle.receiver_steps.proofs.Held.{held, lent}
+use Rattle.receiver_steps.proofs.Held.{lent}
 
 -- number 20
 pub data Misplaced (r : Receiver) (offset : ℕ) (cdp : Bool) : Type 0 where
@@ -114,4 +114,4 @@ within r offset cdp n v = go (rw v at (judged r offset cdp n))
 
 -- and fits the data buffer
 pub room : (r : Receiver) (offset : ℕ) (cdp : Bool) (n m : ℕ) → lentOf r m ≡ true → dispositionOf r offset cdp n ≡ Store → offset + n ≤ m
-room r offset cdp n m e v = let l = lent r m e in omega (arith, held r (l .holds), within r offset cdp n v)
+room r offset cdp n m e v = omega (arith, lent r m e .reach, within r offset cdp n v)

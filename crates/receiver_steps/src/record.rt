@@ -2,7 +2,7 @@
 ghost use mathlib.Core.Path.{_≡_};
 ghost use Rattle.status.specs.Number.{refusalNumber, failureNumber};
 ghost use Rattle.status.specs.Answer.{Said, _saying_};
-ghost use Rattle.receiver_steps.specs.Record.{holdsOf, lentOf, beginning, stepped, failedOf};
+ghost use Rattle.receiver_steps.specs.Record.{holdsOf, rightLength, lentOf, beginning, stepped, failedOf};
 use crate::types::Receiver;
 use crate::types::Stepped;
 use status::Answer;
@@ -16,11 +16,22 @@ pub fn holds(r: Receiver) -> bool
 {
     let t = r.transfer;
     let limits = t.limits_hold();
+    let past = t.past();
     limits
+        & (t.start <= r.base)
         & (r.base <= r.expected)
         & (r.expected <= r.filled)
         & (r.filled <= r.end)
-        & (r.end <= t.count)
+        & ((r.end as usize) <= past)
+}
+
+// A write's buffer has the byte count. A read's reaches at least to start plus count.
+fn right_length(t: Transfer, n: usize) -> bool
+    ensures { λ x. ⌜ x ≡ rightLength t n ⌝ }
+{
+    let count = t.count as usize;
+    let past = t.past();
+    if t.write { n == count } else { past <= n }
 }
 
 // Number 1 does not apply, the data buffer's length included.
@@ -28,8 +39,8 @@ pub fn lent(r: Receiver, n: usize) -> bool
     ensures { λ x. ⌜ x ≡ lentOf r n ⌝ }
 {
     let holds = holds(r);
-    let count = r.transfer.count as usize;
-    holds & (n == count)
+    let right = right_length(r.transfer, n);
+    holds & right
 }
 
 // A burst of which nothing is stored yet; whether it is in order is tested at the first call.

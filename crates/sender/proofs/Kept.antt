@@ -12,7 +12,7 @@ use Rattle.status.specs.Entry.{entryOf}
 use Rattle.status.specs.Answer.{Word, Said, Left, _saying_}
 use Rattle.status.specs.Result.{Result, granted}
 use Rattle.status.proofs.Leaves.{picked, unless-gives}
-use Rattle.transfer.specs.Limits.{limitsHold}
+use Rattle.transfer.specs.Limits.{past, limitsHold}
 use Rattle.transfer.specs.declared.Transfer.{Transfer}
 use Rattle.sender_steps.specs.Record.{holdsOf, beginning, lentOf}
 use Rattle.sender_steps.specs.Transmit.{waitsOf, lesser, frameOf, sentOf}
@@ -25,8 +25,8 @@ use Rattle.sender_steps.proofs.Held.{Marks, Held, held, holds-again}
 use Rattle.sender_steps.proofs.Due.{Due, due}
 use Rattle.sender.proofs.Views.{Retried, retried, Settled, settled}
 
-pub begins-holds : (t : Transfer) (b : Burst) → limitsHold t ≡ true → b .base ≤ b .end → b .end ≤ t .count → b .limit ≤ t .limit → holdsOf (beginning t b) ≡ true
-begins-holds t b l p q r = holds-again (beginning t b) l (omega arith)
+pub begins-holds : (t : Transfer) (b : Burst) → limitsHold t ≡ true → t .start ≤ b .base → b .base ≤ b .end → b .end ≤ past t → b .limit ≤ t .limit → holdsOf (beginning t b) ≡ true
+begins-holds t b l o p q r = holds-again (beginning t b) l (omega arith)
 
 module _ (s : Sender) (h : Held s) where
   open Held h using (marks, limits-hold)

@@ -1,5 +1,5 @@
 -- With 1 and 2 tested, a frame asked for is its step.
-use Prim.Native.Nat.{ℕ, _≤_, _<_, _^_}
+use Prim.Native.Nat.{ℕ, _+_, _≤_, _<_, _^_}
 use mathlib.Core.List.{List}
 use mathlib.Core.Bool.{true, false}
 use mathlib.Core.Path.{_≡_, refl, sym, ap, _∙_}
@@ -24,7 +24,7 @@ module _ (s : Sender) (d out : List ℕ) (e : lentOf s (length d) ≡ true) wher
   lent-fits =
       let l = lent-holds s (length d) e in
       let m = held s (l .0) .marks in
-      simp (le-leb _ _ (m .next-most), le-leb (s .burst .end) (length d) (omega (arith, m .end-most, l .1)), lt-ltb _ _ (m .frames-most))
+      simp (le-leb (s .transfer .start) (s .next) (omega arith), le-leb _ _ (m .next-most), le-leb (s .burst .end) (s .transfer .start + length d) (omega arith), lt-ltb _ _ (m .frames-most))
 
   can : writable (dataHeader s) (length (partOf s d)) ≡ true
   can =

@@ -4,7 +4,7 @@ use mathlib.Core.Bool.{Bool, not}
 use Rattle.status.specs.Pick.{all}
 use Rattle.status.specs.Number.{refusalNumber}
 use Rattle.status.specs.Result.{Result, granted}
-use Rattle.transfer.specs.Limits.{limitsHold}
+use Rattle.transfer.specs.Limits.{past, limitsHold}
 use Rattle.transfer.specs.declared.Transfer.{Transfer}
 use Rattle.sender_steps.specs.Record.{beginning}
 use Rattle.sender_steps.specs.declared.types.Burst.{Burst}
@@ -12,9 +12,9 @@ use Rattle.sender_steps.specs.declared.types.Sender.{Sender}
 use Rattle.sender.specs.declared.types.ReadSetup.{ReadSetup}
 use Rattle.sender.specs.declared.types.ReadSetup.the-variants.{Ready, Refused}
 
--- "a read is one burst from 0"
+-- "a read is one burst from 0"; request K5: from its start instead, up to start plus count
 abbrev pub whole : Transfer → Burst
-whole t = record { base = 0; end = t .count; tptt = 0; limit = t .limit }
+whole t = record { base = t .start; end = past t; tptt = 0; limit = t .limit }
 
 abbrev pub setUpTests : Transfer → List Bool
 setUpTests t = limitsHold t ∷ not (t .write) ∷ []

@@ -12,9 +12,10 @@ pub fn set_up_read(t: Transfer) -> ReadSetup
 {
     let limits = t.limits_hold();
     if limits & !t.write {
+        let end = t.past() as u32;
         let b = Burst {
-            base: 0,
-            end: t.count,
+            base: t.start,
+            end: end,
             tptt: 0,
             limit: t.limit,
         };

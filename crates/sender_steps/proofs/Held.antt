@@ -1,21 +1,22 @@
 -- What a well-formed record gives, all bounds at once, and when a record is well-formed.
-use Prim.Native.Nat.{ℕ, _^_, _≤_, _<_}
+use Prim.Native.Nat.{ℕ, _+_, _^_, _≤_, _<_}
 use mathlib.Core.Bool.{true}
 use mathlib.Core.Path.{_≡_}
 use native.Mathlib.Omega.{arith}
 use borrow.Author.Tests.{leb-true, ltb-true, eqb-true, le-leb, lt-ltb, eq-eqb}
 use Rattle.status.proofs.Choose.{each}
-use Rattle.transfer.specs.Limits.{limitsHold}
+use Rattle.transfer.specs.Limits.{past, limitsHold}
 use Rattle.transfer.proofs.Bounds.{Bounds, bounds}
 use Rattle.sender_steps.specs.Record.{tests, holdsOf, lentOf, lentTests}
 use Rattle.sender_steps.specs.declared.types.Sender.{Sender}
 
 -- marks and counts in order
 pub record Marks (s : Sender) : Type 0 where
+  pub base-least : s .transfer .start ≤ s .burst .base
   pub balance-least : s .burst .base ≤ s .balance
   pub balance-most : s .balance ≤ s .next
   pub next-most : s .next ≤ s .burst .end
-  pub end-most : s .burst .end ≤ s .transfer .count
+  pub end-most : s .burst .end ≤ past (s .transfer)
   pub unanswered-most : s .unanswered ≤ s .transfer .window
   pub limit-most : s .burst .limit ≤ s .transfer .limit
   pub retries-most : s .retries ≤ s .burst .limit
@@ -35,7 +36,7 @@ held s e =
 pub holds-again : (s : Sender) → limitsHold (s .transfer) ≡ true → Marks s → holdsOf s ≡ true
 unfolding holdsOf tests
 holds-again s l m =
-    simp (l, le-leb _ _ (m .balance-least), le-leb _ _ (m .balance-most), le-leb _ _ (m .next-most), le-leb _ _ (m .end-most), le-leb _ _ (m .unanswered-most), le-leb _ _ (m .limit-most), le-leb _ _ (m .retries-most), lt-ltb _ _ (m .frames-most))
+    simp (l, le-leb _ _ (m .base-least), le-leb _ _ (m .balance-least), le-leb _ _ (m .balance-most), le-leb _ _ (m .next-most), le-leb _ _ (m .end-most), le-leb _ _ (m .unanswered-most), le-leb _ _ (m .limit-most), le-leb _ _ (m .retries-most), lt-ltb _ _ (m .frames-most))
 
 -- a record with the data buffer that it needs
 pub lent-holds : (s : Sender) (n : ℕ) → lentOf s n ≡ true → (holdsOf s ≡ true) × (n ≡ s .transfer .count)

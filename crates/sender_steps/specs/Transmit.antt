@@ -16,7 +16,7 @@ use Rattle.sender_steps.specs.declared.types.Sender.{Sender}
 unfoldable pub waitsOf : Sender → Bool
 waitsOf s = s .nak || leb (s .transfer .window) (s .unanswered) || eqb (s .next) (s .burst .end)
 
--- "the lesser of the data size and what remains"
+-- "the lesser of the data size and what remains"; T10 paper 001 has the byte count less the Read Data Offset for the latter, which fits only a start of 0
 abbrev pub lesser : Sender → ℕ
 lesser s = min (s .transfer .size) (s .burst .end - s .next)
 
@@ -34,9 +34,9 @@ dataHeader s =
       offset = s .next;
     }
 
--- "starting at its next offset in the lent buffer"
+-- "starting at its next offset in the lent buffer", which holds the count alone: its byte i is "at start plus i in the receiver" (request K5)
 abbrev pub partOf : Sender → List ℕ → List ℕ
-partOf s d = take (lesser s) (drop (s .next) d)
+partOf s d = take (lesser s) (drop (s .next - s .transfer .start) d)
 
 unfoldable pub frameOf : Sender → List ℕ → List ℕ
 frameOf s d = encode (dataHeader s) (partOf s d)
@@ -49,9 +49,9 @@ sentOf s = s with next≔ (s .next + lesser s) with unanswered≔ (s .unanswered
 abbrev pub writesOf : Sender → List ℕ → List ℕ → Left Sender
 writesOf s d out = answered s (sentOf s) (writeAnswer (dataHeader s) (partOf s d) out)
 
--- of number 1 what the step leans on: the next offset is in the burst, the burst in the data buffer, and the frame count has room
+-- of number 1 what the step leans on: the next offset is in the burst and not below the start, the burst in the data buffer, and the frame count has room
 abbrev pub fitTests : Sender → ℕ → List Bool
-fitTests s n = leb (s .next) (s .burst .end) ∷ leb (s .burst .end) n ∷ ltb (s .frames) (2 ^ 60) ∷ []
+fitTests s n = leb (s .transfer .start) (s .next) ∷ leb (s .next) (s .burst .end) ∷ leb (s .burst .end) (s .transfer .start + n) ∷ ltb (s .frames) (2 ^ 60) ∷ []
 
 unfoldable pub fitsOf : Sender → ℕ → Bool
 fitsOf s n = all (fitTests s n)

@@ -17,11 +17,13 @@ pub fn holds(s: Sender) -> bool
     let t = s.transfer;
     let b = s.burst;
     let limits = t.limits_hold();
+    let past = t.past();
     limits
+        & (t.start <= b.base)
         & (b.base <= s.balance)
         & (s.balance <= s.next)
         & (s.next <= b.end)
-        & (b.end <= t.count)
+        & ((b.end as usize) <= past)
         & (s.unanswered <= t.window)
         & (b.limit <= t.limit)
         & (s.retries <= b.limit)

@@ -2,7 +2,7 @@
 ghost use mathlib.Core.Path.{_≡_};
 ghost use mathlib.Core.Bool.{true, false};
 ghost use lib.ListN.{length};
-ghost use Prim.Native.Nat.{_^_, _≤_, _<_};
+ghost use Prim.Native.Nat.{_+_, _^_, _≤_, _<_};
 ghost use Rattle.frame.specs.Write.{handing};
 ghost use Rattle.sender_steps.specs.Record.{stepped};
 ghost use Rattle.sender_steps.specs.Transmit.{waitsOf, lesser, dataHeader, frameOf, sentOf, fitsOf, writesOf, frameStepOf};
@@ -82,7 +82,8 @@ fn transmit(mut s: Sender, buffer: &[u8], out: &mut [u8]) -> Stepped
     ensures { λ r. ⌜ (stepped r ≡ writesOf s (now (buffer .entry)) (now (out .entry))) × (now (out .exit) ≡ handing (writesOf s (now (buffer .entry)) (now (out .entry)) .says) (frameOf s (now (buffer .entry))) (now (out .entry))) ⌝ }
 {
     let n = data_length(s);
-    let from = s.next as usize;
+    let t = s.transfer;
+    let from = (s.next - t.start) as usize;
     let to = from + (n as usize);
     let written = frame::write(header(s), &buffer[from..to], out);
     match written {
@@ -99,11 +100,14 @@ fn transmit(mut s: Sender, buffer: &[u8], out: &mut [u8]) -> Stepped
 
 // Of number 1 what a frame handed out leans on.
 fn fits(s: Sender, n: usize) -> bool
+    requires { ⌜ s .transfer .start + n < 2 ^ 64 ⌝ }
     ensures { λ r. ⌜ r ≡ fitsOf s n ⌝ }
 {
+    let t = s.transfer;
     let b = s.burst;
     let end = b.end as usize;
-    (s.next <= b.end) & (end <= n) & (s.frames < 0x1000_0000_0000_0000)
+    let past = (t.start as usize) + n;
+    (t.start <= s.next) & (s.next <= b.end) & (end <= past) & (s.frames < 0x1000_0000_0000_0000)
 }
 
 // A frame asked for: 1 where next offset, burst or frame count do not fit; wait; the writer's 1 or 3, else a frame of that length.

@@ -5,7 +5,7 @@ abbrev pub MAJOR : ℕ
 MAJOR = 1
 
 abbrev pub MINOR : ℕ
-MINOR = 2
+MINOR = 3
 
 abbrev pub PATCH : ℕ
 PATCH = 0
@@ -16,4 +16,4 @@ VERSION = MAJOR * 10_000 + MINOR * 100 + PATCH
 
 -- moves where a program that was compiled before can no longer be linked: a record's layout, a function's parameters or result
 abbrev pub INTERFACE : ℕ
-INTERFACE = 3
+INTERFACE = 4

@@ -7,13 +7,13 @@ ghost use Rattle.ssp.specs.Version.{VERSION, INTERFACE};
 pub extern "C" fn ssp_version() -> u32
     ensures { λ r. ⌜ r ≡ VERSION ⌝ }
 {
-    10_200
+    10_300
 }
 
 // The interface's number, in its name too: the header names this function, so that only an archive of the same interface links.
 #[no_mangle]
-pub extern "C" fn ssp_interface_3() -> u32
+pub extern "C" fn ssp_interface_4() -> u32
     ensures { λ r. ⌜ r ≡ INTERFACE ⌝ }
 {
-    3
+    4
 }

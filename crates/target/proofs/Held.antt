@@ -6,6 +6,7 @@ use native.Mathlib.Omega.{arith}
 use lib.Dec.{ltb, eqb}
 use borrow.Author.Tests.{leb-true, ltb-true, eqb-true, eqb-false, le-leb, lt-ltb, eq-eqb, ne-eqb}
 use Rattle.status.proofs.Choose.{each}
+use Rattle.transfer.proofs.Bounds.{write-start}
 use Rattle.receiver_steps.specs.Record as receiver
 use Rattle.receiver_steps.proofs.Held as marks
 use Rattle.target.specs.Record.{NONE, READY, tests, holdsOf}
@@ -17,6 +18,9 @@ pub record Held (x : Target) : Type 0 where
   pub core : receiver.holdsOf (x .receiver) ≡ true
   pub marks : marks.Held (x .receiver)
   pub write : x .receiver .transfer .write ≡ true
+  -- a write starts at 0, so its bursts end at most at the byte count
+  pub from-0 : x .receiver .transfer .start ≡ 0
+  pub end-most : x .receiver .end ≤ x .receiver .transfer .count
   pub state-most : x .state ≤ READY
   -- the burst of an XFER_RDY handed out is not empty
   pub some : (x .state ≡ NONE → ⊥) → x .receiver .base < x .receiver .end
@@ -28,10 +32,14 @@ pub held : (x : Target) → holdsOf x ≡ true → Held x
 unfolding holdsOf tests
 held x e =
     let h = each (tests x) e in
+    let m = marks.held (x .receiver) (h .0) in
+    let z = write-start (x .receiver .transfer) (marks.limits-again (x .receiver) (h .0)) (h .1 .0) in
     record {
       core = h .0;
-      marks = marks.held (x .receiver) (h .0);
+      marks = m;
       write = h .1 .0;
+      from-0 = z;
+      end-most = omega (arith, m .end-past);
       state-most = omega (arith, leb-true);
       some = λ n. let e = rw (ne-eqb _ _ n) at (h .1 .1 .1 .0) in omega (arith, leb-true, ltb-true);
       retries-most = omega (arith, leb-true);
@@ -62,4 +70,7 @@ lent-again x m h e = simp (h, eq-eqb _ _ e)
 
 -- the receiving port's record comes with it too
 pub core-lent : (x : Target) (m : ℕ) → lentOf x m ≡ true → receiver.lentOf (x .receiver) m ≡ true
-core-lent x m e = let l = lent x m e in marks.lent-again (x .receiver) m (held x (l .holds) .core) (l .size)
+core-lent x m e =
+    let l = lent x m e in
+    let h = held x (l .holds) in
+    marks.lent-again (x .receiver) m (h .core) (marks.write-long (x .receiver .transfer) m (h .write) (l .size))

@@ -48,7 +48,7 @@ burst-transfer x = picked (λ (y : Target). y .receiver .transfer ≡ x .receive
 module _ (x : Target) (h : Held x) where
   pub issued-order : (issuedOf x .receiver .base ≤ issuedOf x .receiver .end) × (issuedOf x .receiver .end ≤ x .receiver .transfer .count)
   unfolding issuedOf burstOf
-  issued-order = let m = h .marks in picked (λ (y : Target). (y .receiver .base ≤ y .receiver .end) × (y .receiver .end ≤ x .receiver .transfer .count)) (eqb (x .state) AGAIN) x (nextBurst x) (omega arith) (omega arith)
+  issued-order = let m = h .marks in let e = h .end-most in picked (λ (y : Target). (y .receiver .base ≤ y .receiver .end) × (y .receiver .end ≤ x .receiver .transfer .count)) (eqb (x .state) AGAIN) x (nextBurst x) (omega arith) (omega arith)
 
   -- no empty burst is handed out
   pub issued-some : dueOf x ≡ true → issuedOf x .receiver .base < issuedOf x .receiver .end

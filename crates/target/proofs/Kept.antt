@@ -24,6 +24,7 @@ use Rattle.arrival.specs.declared.Arrived.{Arrived}
 use Rattle.arrival.proofs.Passed.{passed}
 use Rattle.transfer.specs.Limits.{limitsHold}
 use Rattle.transfer.specs.declared.Transfer.{Transfer}
+use Rattle.transfer.proofs.Bounds.{write-start}
 use Rattle.receiver.specs.DataFrame.{arrivalOf}
 use Rattle.receiver_steps.proofs.Held as marks
 use Rattle.receiver.proofs.Kept as kept
@@ -49,7 +50,7 @@ by-test P true a b p q = p refl
 by-test P false a b p q = q
 
 pub start-holds : (t : Transfer) → limitsHold t ≡ true → t .write ≡ true → holdsOf (startOf t) ≡ true
-start-holds t l w = holds-again (startOf t) (kept.begins-holds t 0 0 l (omega arith) (omega arith)) w (omega arith) (λ n. absurd (n refl)) (omega arith) (omega arith) (omega arith)
+start-holds t l w = holds-again (startOf t) (kept.begins-holds t 0 0 l (omega (arith, write-start t l w)) (omega arith) (omega arith)) w (omega arith) (λ n. absurd (n refl)) (omega arith) (omega arith) (omega arith)
 
 module _ (x : Target) (h : Held x) where
   pub issued-holds : dueOf x ≡ true → x .since + 1 ≤ 16 → holdsOf (issuedOf x) ≡ true
@@ -61,12 +62,12 @@ module _ (x : Target) (h : Held x) where
       go (Due.fresh a u f l) =
           let m = h .marks in
           let t = m .limits in
-          rw (started x a) (holds-again _ (kept.begins-holds _ _ _ (marks.limits-again (x .receiver) (h .core)) (omega arith) (omega arith)) (h .write) (omega arith) (λ n. omega arith) (omega arith) s (h .elapsed-most))
+          rw (started x a) (holds-again _ (kept.begins-holds _ _ _ (marks.limits-again (x .receiver) (h .core)) (omega arith) (omega arith) (omega arith)) (h .write) (omega arith) (λ n. omega arith) (omega arith) s (h .elapsed-most))
 
   acknowledged-again : (x .state ≡ NONE → ⊥) → holdsOf (acknowledgedOf x) ≡ true
   acknowledged-again n =
       let m = h .marks in
-      holds-again _ (marks.holds-again _ (marks.limits-again (x .receiver) (h .core)) (omega arith) (omega arith) (omega arith) (m .end-count)) (h .write) (omega arith) (λ z. h .some n) (h .retries-most) (h .since-most) (omega arith)
+      holds-again _ (marks.holds-again _ (marks.limits-again (x .receiver) (h .core)) (m .start-base) (omega arith) (omega arith) (omega arith) (m .end-past)) (h .write) (omega arith) (λ z. h .some n) (h .retries-most) (h .since-most) (omega arith)
 
   -- milliseconds counted, below the timeout
   counted-holds : (n : ℕ) → n < x .receiver .transfer .irt → holdsOf (x with elapsed≔ n) ≡ true

@@ -1,12 +1,12 @@
 -- What a transfer within the limits gives, all bounds at once.
-use Prim.Native.Nat.{ℕ, _%_, _^_, _≤_, _<_}
-use mathlib.Core.Bool.{Bool, true, _||_}
+use Prim.Native.Nat.{ℕ, _+_, _%_, _^_, _≤_, _<_}
+use mathlib.Core.Bool.{Bool, true, not, _||_}
 use mathlib.Core.Path.{_≡_, sym, ap, _∙_}
 use native.Mathlib.Omega.{arith}
 use lib.Dec.{eqb}
 use borrow.Author.Tests.{leb-true, eqb-true}
 use Rattle.status.proofs.Choose.{each}
-use Rattle.transfer.specs.Limits.{limits, limitsHold, ZeroBefore}
+use Rattle.transfer.specs.Limits.{past, limits, limitsHold, ZeroBefore}
 use Rattle.transfer.specs.declared.Transfer.{Transfer}
 
 pub record Bounds (t : Transfer) : Type 0 where
@@ -22,6 +22,7 @@ pub record Bounds (t : Transfer) : Type 0 where
   pub burst-most : t .burst ≤ t .count
   pub local : t .local < 2 ^ 24
   pub remote : t .remote < 2 ^ 24
+  pub past-most : past t ≤ 16_777_216
 
 pub bounds : (t : Transfer) → limitsHold t ≡ true → Bounds t
 unfolding limitsHold limits
@@ -33,4 +34,12 @@ unfolding limitsHold limits
 zero-before t e f =
     let h = each (limits t) e in
     let z = ap (λ (b : Bool). b || eqb (t .value) 0) (sym f) ∙ h .1 .1 .1 .1 .1 .1 .1 .1 .1 .1 .1 .1 .0 in
+    omega (arith, leb-true, eqb-true)
+
+-- a write starts at 0
+pub write-start : (t : Transfer) → limitsHold t ≡ true → t .write ≡ true → t .start ≡ 0
+unfolding limitsHold limits
+write-start t e f =
+    let h = each (limits t) e in
+    let z = ap (λ (b : Bool). not b || eqb (t .start) 0) (sym f) ∙ h .1 .1 .1 .1 .1 .1 .1 .1 .1 .1 .1 .1 .1 .1 .0 in
     omega (arith, leb-true, eqb-true)

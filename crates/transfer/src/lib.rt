@@ -1,6 +1,6 @@
 // The transfer record: what both ports of a command are set up with. It never changes.
 ghost use mathlib.Core.Path.{_≡_};
-ghost use Rattle.transfer.specs.Limits.{limitsHold, made, madeOf};
+ghost use Rattle.transfer.specs.Limits.{past, limitsHold, made, madeOf};
 use status::Refusal;
 
 #[repr(C)]
@@ -27,6 +27,8 @@ pub struct Transfer {
     pub value: u16,
     // Initiator Response Timeout of a write's target, in milliseconds; 0: off
     pub irt: u16,
+    // where a read begins in the host's buffer; 0 in a write
+    pub start: u32,
 }
 
 pub enum Made {
@@ -55,10 +57,20 @@ impl Transfer {
 
     pub const ADDRESS_MOST: u32 = 0xff_ffff;
 
+    pub const PAST_MOST: usize = 16_777_216;
+
+    // Start plus count. 64 bits hold the sum of any two fields of 32.
+    pub fn past(self) -> usize
+        ensures { λ r. ⌜ r ≡ past self ⌝ }
+    {
+        (self.start as usize) + (self.count as usize)
+    }
+
     // The limits are the record's own: each port tests them at every call.
     pub fn limits_hold(self) -> bool
         ensures { λ r. ⌜ r ≡ limitsHold self ⌝ }
     {
+        let past = self.past();
         (Transfer::COUNT_LEAST <= self.count)
             & (self.count <= Transfer::COUNT_MOST)
             & (Transfer::SIZE_LEAST <= self.size)
@@ -72,6 +84,8 @@ impl Transfer {
             & (self.local <= Transfer::ADDRESS_MOST)
             & (self.remote <= Transfer::ADDRESS_MOST)
             & (self.sas2 | (self.value == 0))
+            & (past <= Transfer::PAST_MOST)
+            & (!self.write | (self.start == 0))
     }
 
     // 1, else a transfer within the limits. A read is one burst and does not use `burst`, which keeps its limits all the same.
@@ -88,8 +102,9 @@ impl Transfer {
         sas2: bool,
         value: u16,
         irt: u16,
+        start: u32,
     ) -> Made
-        ensures { λ r. ⌜ made r ≡ madeOf (record { write = write; count = count; size = size; window = window; limit = limit; burst = burst; local = local; remote = remote; tag = tag; sas2 = sas2; value = value; irt = irt }) ⌝ }
+        ensures { λ r. ⌜ made r ≡ madeOf (record { write = write; count = count; size = size; window = window; limit = limit; burst = burst; local = local; remote = remote; tag = tag; sas2 = sas2; value = value; irt = irt; start = start }) ⌝ }
     {
         let t = Transfer {
             write: write,
@@ -104,6 +119,7 @@ impl Transfer {
             sas2: sas2,
             value: value,
             irt: irt,
+            start: start,
         };
         if t.limits_hold() {
             Made::Taken(t)

@@ -1,6 +1,7 @@
 -- The three reads, by computation and the theorem.
 use mathlib.Core.Logic.{inl, inr}
 use mathlib.Core.Path.{refl}
+use lib.ListN.{replicate}
 use native.Mathlib.Omega.{arith}
 use Rattle.link.specs.World.{Allowed}
 use Rattle.link.specs.Claim.{sas11, Starts}
@@ -13,7 +14,7 @@ use Rattle.worked.proofs.Run.{given, alike, _then_, worked}
 
 eight-starts : Starts readPorts sas11 (burst 0 8 1) eightStart
 unfolding computed eightStart
-eight-starts = Starts.read (target 8 2 1) (host 8 2 1) _ _ _ _ refl refl alike (omega arith) refl refl
+eight-starts = Starts.read (target 8 2 1) (host 8 2 1) _ _ _ (replicate 8 0xff) refl refl alike (omega arith) refl (omega arith)
 
 nak-lost-allowed : Allowed eightStart nakLostEvents
 unfolding computed eightStart nakLostEvents

@@ -4,6 +4,7 @@ pub mod Run
 pub mod Read
 pub mod Faults
 pub mod Pairing
+pub mod Further
 pub mod Write
 pub mod Silent
 pub mod Crossing

@@ -1,6 +1,7 @@
 -- The two reads: everything but the claim itself by computation, the claim by the theorem.
 use mathlib.Core.Logic.{inl, inr}
 use mathlib.Core.Path.{refl}
+use lib.ListN.{replicate}
 use native.Mathlib.Omega.{arith}
 use Rattle.link.specs.World.{Allowed}
 use Rattle.link.specs.Claim.{sas11, Starts}
@@ -13,11 +14,11 @@ use Rattle.worked.proofs.Run.{given, alike, _then_, worked}
 
 ten-starts : Starts readPorts sas11 (burst 0 10 5) tenStart
 unfolding computed tenStart
-ten-starts = Starts.read (target 10 3 5) (host 10 3 5) _ _ _ _ refl refl alike (omega arith) refl refl
+ten-starts = Starts.read (target 10 3 5) (host 10 3 5) _ _ _ (replicate 10 0xff) refl refl alike (omega arith) refl (omega arith)
 
 six-starts : Starts readPorts sas11 (burst 0 6 1) sixStart
 unfolding computed sixStart
-six-starts = Starts.read (target 6 2 1) (host 6 2 1) _ _ _ _ refl refl alike (omega arith) refl refl
+six-starts = Starts.read (target 6 2 1) (host 6 2 1) _ _ _ (replicate 6 0xff) refl refl alike (omega arith) refl (omega arith)
 
 ten-allowed : Allowed tenStart tenEvents
 unfolding computed tenStart tenTransfer tenLate

@@ -21,5 +21,5 @@ use Rattle.target.specs.Read as target-read
 use Rattle.link.specs.Tally.{cutFault, timeoutFault}
 
 unfoldable pub computed : Unit {0}
-unfolding pick entryOf confirmableOf granted limits limitsHold flagByte flagsOf headerBytes dataBytes encode over placed headerIn decode classOf screenOf acceptOf tests holdsOf lentOf waitsOf dataHeader frameOf sentOf hands nextOf retryOf advanceOf settleOf confirmsOf receiver.tests receiver.holdsOf receiver.lentOf misplaced outOfStep dispositionOf arrivalOf readHoldsOf readLentOf notExpectedOf responseFits senseFits byKind responseIuOf responseOf readArrivalOf target-read.readHoldsOf target-read.readArrivalOf cutFault timeoutFault
+unfolding pick entryOf confirmableOf granted limits limitsHold flagByte flagsOf headerBytes dataBytes encode over placed headerIn decode classOf screenOf acceptOf tests holdsOf lentOf waitsOf dataHeader frameOf sentOf hands nextOf retryOf advanceOf settleOf confirmsOf receiver.tests receiver.holdsOf receiver.rightLength receiver.lentOf misplaced outOfStep dispositionOf arrivalOf readHoldsOf readLentOf notExpectedOf responseFits senseFits byKind responseIuOf responseOf readArrivalOf target-read.readHoldsOf target-read.readArrivalOf cutFault timeoutFault
 computed = tt

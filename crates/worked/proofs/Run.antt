@@ -21,7 +21,7 @@ given (inr (f, d)) e = let z : _≡_ {A = ℕ} 0 1 = cc in omega arith
 
 -- two ports with each other's addresses
 pub alike : {here there : ℕ} {write : Bool} {count window limit burst : ℕ} → Alike (between here there write count window limit burst) (between there here write count window limit burst)
-alike = record { count = refl; size = refl; window = refl; limit = refl; there = refl; back = refl; tag = refl; tag-bits = omega arith; value-bits = omega arith }
+alike = record { count = refl; size = refl; window = refl; limit = refl; there = refl; back = refl; tag = refl; tag-bits = omega arith; value-bits = omega arith; start = refl }
 
 -- an event's part of `Allowed`, then those of the rest
 infixr 40 _then_

@@ -22,7 +22,7 @@ unfolding computed-write
 discarded = refl
 
 device-alike : Alike host device
-device-alike = record { count = refl; size = refl; window = refl; limit = refl; there = refl; back = refl; tag = refl; tag-bits = omega arith; value-bits = omega arith }
+device-alike = record { count = refl; size = refl; window = refl; limit = refl; there = refl; back = refl; tag = refl; tag-bits = omega arith; value-bits = omega arith; start = refl }
 
 repeat-starts : Starts writePorts sas11 (burst 0 12 3) repeatStart
 unfolding computed-write repeatStart

@@ -20,7 +20,7 @@ use Rattle.worked.specs.Faults.{eight, nakLostEvents}
 -- the transfer t under SAS-2, with a value
 abbrev pub sas2 : ℕ → Transfer → Transfer
 sas2 value t =
-    record { write = t .write; count = t .count; size = t .size; window = t .window; limit = t .limit; burst = t .burst; local = t .local; remote = t .remote; tag = t .tag; sas2 = true; value = value; irt = t .irt }
+    record { write = t .write; count = t .count; size = t .size; window = t .window; limit = t .limit; burst = t .burst; local = t .local; remote = t .remote; tag = t .tag; sas2 = true; value = value; irt = t .irt; start = t .start }
 
 -- the read of specs/Faults between a target and an initiator of any edition
 abbrev pub between : Transfer → Transfer → World readPorts

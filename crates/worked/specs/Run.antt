@@ -11,7 +11,7 @@ use Rattle.link.specs.Claim.{Editions, Starts}
 
 -- a burst with four bytes per frame: base, end, retry limit
 abbrev pub burst : ℕ → ℕ → ℕ → BurstParameters
-burst base end limit = record { base = base; end = end; size = 4; limit = limit }
+burst base end limit = record { start = 0; base = base; end = end; size = 4; limit = limit }
 
 -- of each frame its data offset and byte 10, which is 1 where CDP is one
 abbrev pub pointers : List (List ℕ) → List (ℕ × ℕ)

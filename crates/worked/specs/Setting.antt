@@ -9,7 +9,7 @@ use Rattle.transfer.specs.declared.Transfer.{Transfer}
 -- a transfer record at one of two ports, by its own hashed address and the other's: SAS-1.1, four bytes per frame, tag 0012h; the byte count, window, retry limit and burst size
 abbrev pub between : ℕ → ℕ → Bool → ℕ → ℕ → ℕ → ℕ → Transfer
 between here there write count window limit burst =
-    record { write = write; count = count; size = 4; window = window; limit = limit; burst = burst; local = here; remote = there; tag = 0x0012; sas2 = false; value = 0; irt = 0 }
+    record { write = write; count = count; size = 4; window = window; limit = limit; burst = burst; local = here; remote = there; tag = 0x0012; sas2 = false; value = 0; irt = 0; start = 0 }
 
 -- a read of so many bytes, with a window and a retry limit: the target's transfer record and the initiator's
 abbrev pub target : ℕ → ℕ → ℕ → Transfer

@@ -30,7 +30,7 @@ host = between 0x123456 0xabcdef true 12 3 3 12
 
 abbrev pub device : Transfer
 device =
-    record { write = true; count = 12; size = 4; window = 3; limit = 3; burst = 12; local = 0xabcdef; remote = 0x123456; tag = 0x0012; sas2 = false; value = 0; irt = 100 }
+    record { write = true; count = 12; size = 4; window = 3; limit = 3; burst = 12; local = 0xabcdef; remote = 0x123456; tag = 0x0012; sas2 = false; value = 0; irt = 100; start = 0 }
 
 abbrev pub twelve : List ℕ
 twelve = 10 ∷ 11 ∷ 12 ∷ 13 ∷ 14 ∷ 15 ∷ 16 ∷ 17 ∷ 18 ∷ 19 ∷ 20 ∷ 21 ∷ []

@@ -9,6 +9,7 @@ use Rattle.status.specs.Result.{Result}
 use Rattle.transfer.specs.declared.Transfer.{Transfer}
 use Rattle.frame.specs.Format.{field}
 use Rattle.receiver_steps.specs.declared.types.Receiver.{Receiver}
+use Rattle.receiver.specs.DataFrame.{arrivalOf}
 use Rattle.initiator.specs.WriteRecord as initiator
 use Rattle.initiator.specs.WriteSend as send
 use Rattle.initiator.specs.WriteTake.{writeArrivalOf}
@@ -184,13 +185,16 @@ pub record Command : Type 1 where
   pub leaves-writer : run firstStart firstEvents .sending ≡ sentFirst
   pub leaves-target : run firstStart firstEvents .receiving ≡ filledFirst
   pub second : SecondDelivered
-  -- the numbers of the calls refused among its events, here where burst 2 starts: 4, 6, 5, 8, 7, 1
+  -- the numbers of the calls refused among its events, here where burst 2 starts: 4, 6, 5, 8, 7, 1; a buffer longer than the byte count is 1 at the target, and at the
+  -- receiving port that it holds
   pub four : ackOf (secondStart .receiving) .says ≡ Said.refused 4
   pub six : writeArrivalOf (secondStart .sending) foreign .says ≡ Said.refused 6
   pub five : writeArrivalOf (secondStart .sending) (0x05 ∷ []) .says ≡ Said.refused 5
   pub eight : taking.writeArrivalOf (secondStart .receiving) (stale 0) 10 .says ≡ Said.refused 8
   pub seven : taking.writeArrivalOf (secondStart .receiving) foreign 10 .says ≡ Said.refused 7
   pub one : send.nextOf (secondStart .sending) (replicate 9 0) space .says ≡ Said.refused 1
+  pub longer : taking.writeArrivalOf (secondStart .receiving) foreign 11 .says ≡ Said.refused 1
+  pub longer-core : arrivalOf (filled 5 10 5) 5 false 4 11 .says ≡ Said.refused 1
   -- the late calls: the RESPONSE's IU of 24 bytes stands at 24, after 8 frames; 31
   pub ends : writeArrivalOf (run secondStart secondTransfer .sending) response .says ≡ Said.response 24 24 busy 8
   pub loses : lossOf (run secondStart secondTransfer .receiving) .says ≡ Said.failed 31 0

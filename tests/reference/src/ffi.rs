@@ -14,20 +14,21 @@ pub struct Part {
 const _: () = assert!(size_of::<Answer>() == 40 && offset_of!(Answer, kind) == 2 && offset_of!(Answer, status) == 3);
 const _: () = assert!(offset_of!(Answer, frames) == 8 && offset_of!(Answer, len) == 24 && offset_of!(Answer, sense) == 32);
 const _: () = assert!(size_of::<Part>() == 16 && offset_of!(Part, len) == 8);
-// The records that K7 and K4 moved.
-const _: () = assert!(size_of::<Transfer>() == 36 && offset_of!(Transfer, write) == 30);
+// The records that K7, K4 and K5 moved.
+const _: () = assert!(size_of::<Transfer>() == 40 && offset_of!(Transfer, write) == 30);
 const _: () = assert!(offset_of!(Transfer, sas2) == 31 && offset_of!(Transfer, value) == 32 && offset_of!(Transfer, irt) == 34);
-const _: () = assert!(size_of::<Sender>() == 80 && offset_of!(Sender, burst) == 36 && offset_of!(Sender, next) == 52);
-const _: () = assert!(offset_of!(Sender, nak) == 64 && offset_of!(Sender, retries) == 68 && offset_of!(Sender, frames) == 72);
-const _: () = assert!(size_of::<Receiver>() == 56 && offset_of!(Receiver, base) == 36 && offset_of!(Receiver, ended) == 53);
-const _: () = assert!(size_of::<Writer>() == 104 && offset_of!(Writer, reached) == 80 && offset_of!(Writer, taken) == 88);
-const _: () = assert!(size_of::<Target>() == 72 && offset_of!(Target, retries) == 56 && offset_of!(Target, stored) == 67);
-const _: () = assert!(offset_of!(Target, elapsed) == 68);
-const _: () = assert!(size_of::<Responder>() == 48 && offset_of!(Responder, len) == 36 && offset_of!(Responder, ended) == 45);
+const _: () = assert!(offset_of!(Transfer, start) == 36);
+const _: () = assert!(size_of::<Sender>() == 88 && offset_of!(Sender, burst) == 40 && offset_of!(Sender, next) == 56);
+const _: () = assert!(offset_of!(Sender, nak) == 68 && offset_of!(Sender, retries) == 72 && offset_of!(Sender, frames) == 80);
+const _: () = assert!(size_of::<Receiver>() == 60 && offset_of!(Receiver, base) == 40 && offset_of!(Receiver, ended) == 57);
+const _: () = assert!(size_of::<Writer>() == 112 && offset_of!(Writer, reached) == 88 && offset_of!(Writer, taken) == 96);
+const _: () = assert!(size_of::<Target>() == 76 && offset_of!(Target, retries) == 60 && offset_of!(Target, stored) == 71);
+const _: () = assert!(offset_of!(Target, elapsed) == 72);
+const _: () = assert!(size_of::<Responder>() == 52 && offset_of!(Responder, len) == 40 && offset_of!(Responder, ended) == 49);
 
 #[rustfmt::skip]
 extern "C" {
-    pub fn ssp_interface_3() -> u32;
+    pub fn ssp_interface_4() -> u32;
 
     pub fn ssp_read_target_set_up(s: *mut Sender, t: Transfer) -> Answer;
     pub fn ssp_read_target_next_frame(s: *mut Sender, data: *const u8, data_len: usize, out: *mut u8, out_len: usize) -> Answer;

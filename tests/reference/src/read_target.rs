@@ -23,7 +23,8 @@ pub fn set_up(s: &mut Sender, t: Transfer) -> Answer {
     if !t.fits() || t.write {
         return Answer::refused(1);
     }
-    *s = Sender { transfer: t, burst: Burst { base: 0, end: t.count, tptt: 0, limit: t.limit }, ..Sender::default() };
+    let burst = Burst { base: t.start, end: t.end() as u32, tptt: 0, limit: t.limit };
+    *s = Sender { transfer: t, burst, next: t.start, balance: t.start, ..Sender::default() };
     Answer::is(READY)
 }
 

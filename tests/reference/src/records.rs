@@ -68,6 +68,8 @@ pub struct Transfer {
     pub value: u16,
     /// K4: the Initiator Response Timeout in milliseconds; 0 switches it off. Only the target of a write goes by it.
     pub irt: u16,
+    /// K5: where a read begins in the initiator's buffer; 0 in a write.
+    pub start: u32,
 }
 
 #[repr(C)]
@@ -172,6 +174,7 @@ pub const STATE_READY: u8 = 3;
 
 impl Transfer {
     /// "Limits of a transfer", and hashed addresses of 24 bits. K7: "a nonzero value under SAS-1.1 is 1".
+    /// K5: "1 gains the sum and a write's start other than 0".
     pub fn fits(&self) -> bool {
         (1..=16_777_216).contains(&self.count)
             && (4..=1024).contains(&self.size)
@@ -183,6 +186,12 @@ impl Transfer {
             && self.local < 1 << 24
             && self.remote < 1 << 24
             && (self.sas2 || self.value == 0)
+            && self.end() <= 16_777_216
+            && (!self.write || self.start == 0)
+    }
+    /// K5: start plus count. Any two numbers have a sum.
+    pub fn end(&self) -> u64 {
+        u64::from(self.start) + u64::from(self.count)
     }
     /// K7: the TPTT of read DATA and RESPONSE.
     pub fn carried(&self) -> u16 {
@@ -196,7 +205,7 @@ impl Transfer {
 
 impl Burst {
     pub fn fits(&self, transfer: &Transfer) -> bool {
-        self.base <= self.end && self.end <= transfer.count && self.limit <= transfer.limit
+        self.base <= self.end && u64::from(self.end) <= transfer.end() && self.limit <= transfer.limit
     }
 }
 
@@ -204,6 +213,7 @@ impl Sender {
     pub fn fits(&self) -> bool {
         self.transfer.fits()
             && self.burst.fits(&self.transfer)
+            && self.transfer.start <= self.burst.base
             && self.burst.base <= self.balance
             && self.balance <= self.next
             && self.next <= self.burst.end
@@ -216,10 +226,11 @@ impl Sender {
 impl Receiver {
     pub fn fits(&self) -> bool {
         self.transfer.fits()
+            && self.transfer.start <= self.base
             && self.base <= self.expected
             && self.expected <= self.filled
             && self.filled <= self.end
-            && self.end <= self.transfer.count
+            && u64::from(self.end) <= self.transfer.end()
     }
 }
 

@@ -24,7 +24,9 @@ pub fn next_frame(s: &mut Sender, data: &[u8], out: &mut [u8]) -> Answer {
         return Answer::is(WAIT);
     }
     let len = s.transfer.size.min(s.burst.end - s.next);
-    let part = &data[s.next as usize..(s.next + len) as usize];
+    // K5: the offset is a place in the initiator's buffer; this buffer begins at the read's start. A write's start is 0.
+    let at = (s.next - s.transfer.start) as usize;
+    let part = &data[at..at + len as usize];
     let header = Header {
         kind: frame::DATA,
         dest: s.transfer.remote,

@@ -1,6 +1,6 @@
 //! Compares the library with the reference. Arguments: first seed, runs, single calls, depth of the lists, run files.
 use reference::check::pair::SEEN;
-use reference::check::{editions, ladders, opened, resent, silent, single, steps, tlr, tree, vectors, world};
+use reference::check::{editions, further, ladders, opened, resent, silent, single, steps, tlr, tree, vectors, world};
 use std::sync::atomic::Ordering::Relaxed;
 use std::time::Instant;
 
@@ -64,6 +64,7 @@ fn main() {
     alike &= part("opening the RESPONSE", &mut sum, opened::all);
     alike &= part("SAS-2", &mut sum, editions::all);
     alike &= part("silent initiator", &mut sum, silent::all);
+    alike &= part("further in", &mut sum, further::all);
     alike &= part("single calls", &mut sum, || single::all(first, singles));
     alike &= part("lists of events", &mut sum, || tree::each(depth as usize));
     alike &= part("longer lists", &mut sum, || tree::longer(depth as usize));

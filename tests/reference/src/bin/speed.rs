@@ -183,6 +183,7 @@ fn read(count: usize, size: usize) -> Transfer {
         sas2: false,
         value: 0,
         irt: 0,
+        start: 0,
     }
 }
 

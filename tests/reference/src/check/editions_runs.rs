@@ -4,9 +4,9 @@
 use super::editions::*;
 use super::pair::{Call, Pair, Rec};
 use super::rng::Rng;
-use super::silent;
 use super::vectors::response_iu;
 use super::world::{self, Ends, World};
+use super::{further, silent};
 use crate::frame;
 use crate::records::*;
 use std::collections::BTreeMap;
@@ -121,12 +121,12 @@ impl Command {
         let [initiator, target] = if t.write { ends } else { [ends[1], ends[0]] };
         let initiator = Transfer { irt: !t.irt, ..initiator };
         let bytes: Vec<u8> = (0..t.count).map(|_| g.next() as u8).collect();
-        let zeros = vec![0; bytes.len()];
+        let lent = if t.write { vec![0; bytes.len()] } else { further::host(&initiator) };
         let room = 24 + t.size.max(28) as usize;
         let recs = if t.write {
-            [(Rec::Writer(Writer::default()), bytes), (Rec::Target(Target::default()), zeros)]
+            [(Rec::Writer(Writer::default()), bytes), (Rec::Target(Target::default()), lent)]
         } else {
-            [(Rec::Receiver(Receiver::default()), zeros), (Rec::Sender(Sender::default()), bytes)]
+            [(Rec::Receiver(Receiver::default()), lent), (Rec::Sender(Sender::default()), bytes)]
         };
         let [a, b] = recs.map(|(rec, data)| Pair::new(rec, data, room));
         let responder = Pair::new(Rec::Responder(Responder::default()), response_iu(6, 26), room);
@@ -157,7 +157,7 @@ impl Command {
         }
     }
 
-    fn call(&mut self, end: fn(&mut Command) -> &mut Pair, call: Call) -> Result<Answer, String> {
+    pub(super) fn call(&mut self, end: fn(&mut Command) -> &mut Pair, call: Call) -> Result<Answer, String> {
         let a = end(self).call(&call)?.unwrap();
         if !matches!(call, Call::SetUp(..)) {
             self.reports()?;
@@ -209,7 +209,7 @@ impl Command {
     }
 
     /// DATA until the sending port has delivered. False: it failed.
-    fn data(&mut self, from: fn(&mut Command) -> &mut Pair, to: fn(&mut Command) -> &mut Pair) -> Result<bool, String> {
+    pub(super) fn data(&mut self, from: fn(&mut Command) -> &mut Pair, to: fn(&mut Command) -> &mut Pair) -> Result<bool, String> {
         loop {
             let mut turn = Vec::new();
             while let Some(f) = self.ask(from)? {
@@ -249,7 +249,9 @@ impl Command {
         } else {
             whole = self.data(|c| &mut c.target, |c| &mut c.initiator)?;
         }
-        if whole && self.initiator.data[1] != self.target.data[1] {
+        // K5: "byte i of the sender is at start plus i in the receiver".
+        let start = if let Rec::Receiver(r) = self.initiator.rec[1] { r.transfer.start as usize } else { 0 };
+        if whole && self.initiator.data[1][start..][..self.target.data[1].len()] != self.target.data[1] {
             return Err("delivered at both sides, and the bytes differ".into());
         }
         let f = self.ask(|c| &mut c.responder)?.ok_or("no RESPONSE")?;
@@ -278,6 +280,7 @@ fn command(seed: u64, seen: &mut Seen, whole: &mut [u64; 4]) -> Result<u64, Stri
         irt: silent::value(&mut Rng(!seed ^ 4)),
         ..Transfer::default()
     };
+    let t = Transfer { start: further::small(&mut Rng(!seed ^ 5), t.write), ..t };
     let mut first: Option<Command> = None;
     let mut calls = 0;
     for (k, sas2) in PAIRINGS.into_iter().enumerate() {

@@ -33,14 +33,16 @@ pub(super) fn roles() -> [Role; 6] {
 }
 
 /// The whole record after its set-up, field by field.
-fn fresh(rec: &Rec, transfer: Transfer) -> Rec {
+pub(super) fn fresh(rec: &Rec, transfer: Transfer) -> Rec {
+    // K5: a read begins at its start; a write's is 0.
+    let [start, end] = [transfer.start, transfer.start + transfer.count];
     let burst = Burst { base: 0, end: 0, limit: 2, tptt: 0 };
     let sender =
         Sender { transfer, burst, next: 0, balance: 0, unanswered: 0, nak: false, cdp: false, ended: false, retries: 0, frames: 0 };
     let receiver = Receiver { transfer, base: 0, end: 0, expected: 0, filled: 0, waiting: false, ended: false };
     match rec {
-        Rec::Sender(_) => Rec::Sender(Sender { burst: Burst { end: 4, ..burst }, ..sender }),
-        Rec::Receiver(_) => Rec::Receiver(Receiver { end: 4, ..receiver }),
+        Rec::Sender(_) => Rec::Sender(Sender { burst: Burst { base: start, end, ..burst }, next: start, balance: start, ..sender }),
+        Rec::Receiver(_) => Rec::Receiver(Receiver { base: start, end, expected: start, filled: start, ..receiver }),
         Rec::Writer(_) => Rec::Writer(Writer { sender, reached: 0, pending: false, taken: Burst { limit: 0, ..burst } }),
         Rec::Target(_) => {
             Rec::Target(Target { receiver, retries: 0, tptt: 0, under: 0, since: 0, state: STATE_NONE, stored: false, elapsed: 0 })
@@ -100,11 +102,16 @@ impl Role {
         self.is(before)
     }
 
-    /// A record with this value under SAS-1.1, fresh and ended: 1 goes before 2 and all else, at every call.
+    /// A record with this value under SAS-1.1.
     fn broken(&mut self, value: u16) -> Result<(), String> {
+        self.refuses(|rec| named(rec, (false, value)))
+    }
+
+    /// A record that was changed so, fresh and ended: 1 goes before 2 and all else, at every call.
+    pub(super) fn refuses(&mut self, change: impl Fn(Rec) -> Rec) -> Result<(), String> {
         for ended in [false, true] {
             self.set_up(false, 0)?;
-            name(&mut self.pair, (false, value));
+            self.pair.rec = self.pair.rec.map(&change);
             if ended {
                 self.pair.rec.iter_mut().for_each(end);
             }

@@ -1,13 +1,14 @@
 //! Made-up records and bytes, with fields near and at their limits.
 use super::pair::Rec;
 use super::rng::Rng;
-use super::{editions, silent};
+use super::{editions, further, silent};
 use crate::records::*;
 
 pub fn transfer(g: &mut Rng, write: bool) -> Transfer {
-    // K7 and K4: from generators of their own, so that the other numbers stay those of the seed.
+    // K7, K4 and K5: from generators of their own, so that the other numbers stay those of the seed.
     let (sas2, value) = editions::any(&mut Rng(!g.0 ^ 7));
     let irt = silent::value(&mut Rng(!g.0 ^ 4));
+    let own = &mut Rng(!g.0 ^ 5);
     let count = if g.one_in(12) { g.of(&[1, 16_777_215, 16_777_216]) } else { 1 + g.up_to(60) };
     let mut t = Transfer {
         write: write ^ g.one_in(60),
@@ -22,7 +23,9 @@ pub fn transfer(g: &mut Rng, write: bool) -> Transfer {
         sas2,
         value,
         irt,
+        start: 0,
     };
+    t.start = further::start(own, t.write, count);
     if g.one_in(12) {
         match g.below(8) {
             0 => t.count = g.of(&[0, 16_777_217, u32::MAX]),
@@ -38,9 +41,11 @@ pub fn transfer(g: &mut Rng, write: bool) -> Transfer {
     t
 }
 
-/// Marks in order, up to the count; now and then out of order or past it.
-fn marks<const N: usize>(g: &mut Rng, count: u32) -> [u32; N] {
-    let count = count.clamp(1, 1 << 24);
+/// Marks in order, from the start up to start plus count; now and then out of order or past them.
+fn marks<const N: usize>(g: &mut Rng, t: &Transfer) -> [u32; N] {
+    let count = t.count.clamp(1, 1 << 24);
+    // K5: now and then as if the start were 0.
+    let start = if Rng(!g.0 ^ 5).one_in(24) { 0 } else { t.start };
     let mut m = [0; N];
     for x in m.iter_mut() {
         *x = match g.below(6) {
@@ -68,7 +73,7 @@ fn marks<const N: usize>(g: &mut Rng, count: u32) -> [u32; N] {
             _ => count + 1,
         };
     }
-    m
+    m.map(|mark: u32| mark.wrapping_add(start))
 }
 
 /// A count up to its limit, now and then one more or far more.
@@ -98,7 +103,7 @@ fn burst_limit(g: &mut Rng, t: &Transfer) -> u32 {
 
 pub fn sender(g: &mut Rng, write: bool) -> Sender {
     let transfer = transfer(g, write);
-    let [base, balance, next, end] = marks(g, transfer.count);
+    let [base, balance, next, end] = marks(g, &transfer);
     let limit = burst_limit(g, &transfer);
     Sender {
         transfer,
@@ -116,7 +121,7 @@ pub fn sender(g: &mut Rng, write: bool) -> Sender {
 
 pub fn receiver(g: &mut Rng, write: bool) -> Receiver {
     let transfer = transfer(g, write);
-    let [base, expected, filled, end] = marks(g, transfer.count);
+    let [base, expected, filled, end] = marks(g, &transfer);
     Receiver { transfer, base, end, expected, filled, waiting: bit(g), ended: g.one_in(20) }
 }
 
@@ -126,7 +131,7 @@ pub fn record(g: &mut Rng, kind: u64) -> Rec {
         1 => Rec::Receiver(receiver(g, false)),
         2 => {
             let s = sender(g, true);
-            let [base, end] = marks(g, s.transfer.count);
+            let [base, end] = marks(g, &s.transfer);
             let reached = match g.below(8) {
                 0 => s.burst.base,
                 1 => s.burst.end.wrapping_add(1),
@@ -157,7 +162,9 @@ pub fn record(g: &mut Rng, kind: u64) -> Rec {
         }
         _ => {
             let t = transfer(g, false);
-            let t = Transfer { write: bit(g), ..t };
+            let write = bit(g);
+            let start = if write { further::start(&mut Rng(!g.0 ^ 5), true, t.count) } else { t.start };
+            let t = Transfer { write, start, ..t };
             let len = if g.one_in(8) { g.of(&[0, 23, 1025, u32::MAX]) } else { g.of(&[24, 25, 26, 27, 28, 100, 1024]) };
             Rec::Responder(Responder { transfer: t, len, unanswered: bit(g), retries: counted(g, t.limit.max(1)), ended: g.one_in(20) })
         }

@@ -1,10 +1,10 @@
 //! K9 with numbers from a seed: IUs at the reader, RESPONSEs at made-up records and at the initiators of whole runs, made-up answers.
-use super::made_up;
 use super::opened::{parts, reads, Iu};
 use super::opened_ports::closed;
 use super::pair::{Call, Pair, Rec};
 use super::rng::Rng;
 use super::world::{self, World};
+use super::{further, made_up};
 use crate::frame;
 use crate::records::*;
 
@@ -95,16 +95,16 @@ fn arrives(pair: &mut Pair, f: &[u8], lent: usize) -> Result<u64, String> {
 }
 
 fn records(g: &mut Rng) -> Result<u64, String> {
-    const ROOM: usize = 64;
+    const ROOM: usize = 120;
     let kind = 1 + g.below(2);
     let rec = made_up::record(g, kind);
-    let t = match &rec {
-        Rec::Receiver(r) => r.transfer,
-        Rec::Writer(w) => w.sender.transfer,
+    let (t, needed) = match &rec {
+        Rec::Receiver(r) => (r.transfer, further::sum(&r.transfer)),
+        Rec::Writer(w) => (w.sender.transfer, u64::from(w.sender.transfer.count)),
         _ => unreachable!(),
     };
     let mut pair = Pair::new(rec, vec![0x3c; ROOM], 0);
-    let lent = if g.one_in(30) { g.up_to(ROOM as u32) } else { t.count.min(ROOM as u32) };
+    let lent = if g.one_in(30) { g.up_to(ROOM as u32) } else { needed.min(ROOM as u64) as u32 };
     let f = response(g, &t);
     arrives(&mut pair, &f, lent as usize)
 }
@@ -119,7 +119,7 @@ fn run(seed: u64) -> Result<u64, String> {
         let at = i + 1;
         let pair = if t.write { &w.sender } else { &w.receiver };
         let f = response(g, &here);
-        n += arrives(&mut pair.clone(), &f, t.count as usize).map_err(|e| format!("before event {at}: {e}"))?;
+        n += arrives(&mut pair.clone(), &f, pair.data[0].len()).map_err(|e| format!("before event {at}: {e}"))?;
         w.step(*event).map_err(|e| format!("event {at}: {e}"))?;
     }
     Ok(n + w.calls)

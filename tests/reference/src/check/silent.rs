@@ -171,9 +171,9 @@ pub(super) fn given(mut rec: Rec, value: u16) -> Rec {
 
 /// Calls compared, or the first difference.
 pub fn all() -> Result<u64, String> {
-    let number = unsafe { ffi::ssp_interface_3() };
-    if number != 3 {
-        return Err(format!("ssp_interface_3 gave {number}"));
+    let number = unsafe { ffi::ssp_interface_4() };
+    if number != 4 {
+        return Err(format!("ssp_interface_4 gave {number}"));
     }
     counted(|| {
         let vectors = super::silent_vectors::all().and_then(|n| Ok(n + super::silent_numbers::all()?));

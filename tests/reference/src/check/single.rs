@@ -2,7 +2,7 @@
 use super::forged::near;
 use super::pair::{Call, Pair, Rec};
 use super::rng::Rng;
-use super::{editions, made_up, silent};
+use super::{editions, further, made_up, silent};
 use crate::frame;
 use crate::records::*;
 use crate::{ffi, records};
@@ -120,8 +120,11 @@ pub fn bytes(g: &mut Rng, rec: &Rec) -> Vec<u8> {
 fn call(g: &mut Rng, rec: &Rec, kind: u64, room: usize) -> Call {
     let t = transfer_of(rec);
     let mut lent = t.count as usize;
-    if let Rec::Responder(r) = rec {
-        lent = r.len as usize;
+    match rec {
+        Rec::Responder(r) => lent = r.len as usize,
+        // K5: from a generator of its own, as above.
+        Rec::Receiver(_) => lent = further::lent(&mut Rng(!g.0 ^ 5), &t, room),
+        _ => {}
     }
     if g.one_in(20) {
         lent = lent.wrapping_add(1);

@@ -42,7 +42,7 @@ pub fn open(name: &'static str, count: u32, limit: u32, burst: u32) -> Result<Sc
 
 fn read_data_sent() -> Result<u64, String> {
     let mut n = 0;
-    // 001, 9.2.6.3.3.2.1 a) to d): at first offset and balance point are the buffer's (01: 0), and the counts zero.
+    // 001, 9.2.6.3.3.2.1 a) to d): at first offset and balance point are the buffer's (K5: the start, here 0), and the counts zero.
     let s = read_sender("001 start", 10, 3, 1)?;
     n += s.holds(matches!(s.pair.rec[0], Rec::Sender(r) if (r.next, r.balance, r.unanswered, r.frames) == (0, 0, 0, 0)))?;
     // 001, NOTE 1: all go out before an answer comes; table 3: delivered once each has its ACK; that ends it.

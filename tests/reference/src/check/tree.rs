@@ -12,7 +12,8 @@ const RESPONSE_LINK: [Event; 6] =
 const LOSSES: [Event; 3] = [Event::Loss(0), Event::Loss(1), Event::Loss(2)];
 
 /// Reads and writes of 1 to 3 frames, windows 1 to 3, limits 0 to 2; a write in one burst and in bursts of one frame. K7: the four pairings of
-/// editions in turn, with values at the edges. K4: the timeout at the receiving end off, after one report of 1, after two, in turn.
+/// editions in turn, with values at the edges. K4: the timeout at the receiving end off, after one report of 1, after two, in turn. K5: a read begins at 0,
+/// 4 or 7.
 fn transfers() -> Vec<Ends> {
     let mut all = Vec::new();
     for write in [false, true] {
@@ -24,7 +25,8 @@ fn transfers() -> Vec<Ends> {
                 let edition = |sas2, n: usize| (sas2, if sas2 { EDGES[n % EDGES.len()] } else { 0 });
                 let (sas2, value) = edition(n & 1 != 0, n / 4 + 1);
                 let irt = [65_535, 0, 1][n % 3];
-                let t = Transfer { write, count, size: 4, window, limit, burst, local: 1, remote: 2, tag: 3, sas2, value, irt };
+                let start = if write { 0 } else { [4, 0, 7][(n + n / 4) % 3] };
+                let t = Transfer { write, count, size: 4, window, limit, burst, local: 1, remote: 2, tag: 3, sas2, value, irt, start };
                 let [here, there] = ends(t, edition(n & 2 != 0, n / 4 + 4));
                 all.push([here, Transfer { irt: [0, 1, 2][(n + n / 3) % 3], ..there }]);
             }

@@ -14,12 +14,17 @@ pub struct Script {
 
 pub fn transfer(write: bool, count: u32, window: u32, limit: u32, burst: u32) -> Transfer {
     let (local, remote) = (0xab_cdef, 0x12_3456);
-    Transfer { write, count, size: 4, window, limit, burst, local, remote, tag: 0x12, sas2: false, value: 0, irt: 0 }
+    Transfer { write, count, size: 4, window, limit, burst, local, remote, tag: 0x12, sas2: false, value: 0, irt: 0, start: 0 }
 }
 
 impl Script {
     pub fn new(name: &'static str, rec: Rec, t: Transfer) -> Result<Script, String> {
-        let n = if matches!(rec, Rec::Responder(_)) { 24 } else { t.count as usize };
+        let n = match rec {
+            Rec::Responder(_) => 24,
+            // K5: the host's buffer reaches to the end of the read.
+            Rec::Receiver(_) => (t.start + t.count) as usize,
+            _ => t.count as usize,
+        };
         let mut s = Script { name, pair: Pair::new(rec, (0..n).map(|i| i as u8).collect(), 1048), calls: 0 };
         s.call(Call::SetUp(t, 24), (READY, 0))?;
         Ok(s)

@@ -2,7 +2,7 @@
 use super::forged::{forged, repeat};
 use super::pair::{Call, Pair, Rec};
 use super::rng::Rng;
-use super::{editions, silent};
+use super::{editions, further, silent};
 use crate::records::*;
 use std::collections::VecDeque;
 
@@ -105,7 +105,7 @@ impl World {
         let room = OUT.max(24 + t.size as usize);
         let mut w = World {
             sender: Pair::new(s, bytes, room),
-            receiver: Pair::new(r, vec![0; n], room),
+            receiver: Pair::new(r, if t.write { vec![0; n] } else { further::host(&other) }, room),
             responder: Pair::new(Rec::Responder(Responder::default()), response_iu(), OUT),
             data: Way::default(),
             ready: Way::default(),
@@ -262,7 +262,8 @@ impl World {
                 }
             }
             Event::Stray(k) => {
-                let d = if k & 0x30 == 0 { 0 } else { n };
+                let end = if k & 8 == 0 { &mut self.sender } else { &mut self.receiver };
+                let d = if k & 0x30 == 0 { 0 } else { end.data[0].len() };
                 let call = match k & 7 {
                     0 => Call::Ack,
                     1 => Call::Nak,
@@ -270,7 +271,6 @@ impl World {
                     3 => Call::Cut,
                     _ => Call::Next(d, (k >> 8) as usize % OUT),
                 };
-                let end = if k & 8 == 0 { &mut self.sender } else { &mut self.receiver };
                 one(end, call, c)
             }
             Event::Loss(k) => {
@@ -288,11 +288,12 @@ impl World {
 /// The run of one seed: its two ends and its events.
 pub fn from_seed(seed: u64) -> (Ends, Vec<Event>) {
     let g = &mut Rng(seed);
-    // K7 and K4: from generators of their own, so that the other numbers stay those of the seed.
+    // K7, K4 and K5: from generators of their own, so that the other numbers stay those of the seed.
     let own = &mut Rng(!seed ^ 7);
     let ((sas2, value), far) = (editions::drawn(own), editions::drawn(own));
     let clock = &mut Rng(!seed ^ 4);
     let (irt, theirs, often) = (silent::value(clock), silent::value(clock), clock.of(&[3, 8, 30]));
+    let places = &mut Rng(!seed ^ 5);
     let write = g.below(3) > 0;
     let count = if g.one_in(40) { 2000 } else { 1 + g.up_to(47) };
     let t = Transfer {
@@ -308,6 +309,7 @@ pub fn from_seed(seed: u64) -> (Ends, Vec<Event>) {
         sas2,
         value,
         irt,
+        start: further::small(places, write),
     };
     let faults = g.of(&[4, 12, 40, 200]);
     let wild = g.of(&[10, 60, 2000]);
@@ -339,7 +341,9 @@ pub fn from_seed(seed: u64) -> (Ends, Vec<Event>) {
         }
     }
     let [here, there] = ends(t, far);
-    ([here, Transfer { irt: theirs, ..there }], list)
+    // K5: nobody compares the two starts.
+    let start = if places.one_in(16) { further::small(places, write) } else { there.start };
+    ([here, Transfer { irt: theirs, start, ..there }], list)
 }
 
 /// Runs a list; at a difference, how many events it took and what differs.

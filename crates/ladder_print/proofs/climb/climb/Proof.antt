@@ -21,28 +21,28 @@ loop-holds : tie.Need-loop-holds Inv-loop μ-loop
 loop-holds c = (refl, climbing-first (now (c .before .before .before .before .args .fates)) (now (c .before .before .before .before .args .source)) (now (c .before .before .before .before .args .out)) (now (c .before .before .before .before .args .received)) (c .before .before .before .before .args .start) 38_292 (omega arith))
 
 row-requires : tie.Need-row-requires Inv-loop μ-loop
-row-requires c κs = room-now (c .before .before .before .before .before .before .before .before .before .before .loop .inv .1) (c .before .before .before .before .before .before .before .before .before .before .before .before .before .before .before .pre .1)
+row-requires c κs = room-now (c .before .before .before .before .before .before .before .before .before .before .loop .inv .1) (c .before .before .before .before .before .before .before .before .before .before .before .before .before .before .before .pre)
 
 loop-again : tie.Need-loop-again Inv-loop μ-loop
-loop-again c = (search needs, climbing-row (c .before .before .before .before .before .before .before .before .before .before .before .before .before .loop .inv .1) (c .before .before .before .before .before .before .before .before .before .before .before .before .before .before .before .before .before .before .pre .1) (c .before .before .before .before .before .before .before .before .before .before .next-line .ensures) (c .before .before .before .before .before .before .before .before .before .before .before .before .loop-test .taken) (c .before .before .before .before .before .before .before .before .before .before .before .before .before .before .before .before .before .before .pre .0) (c .before .before .before .before .before .line .given .1) (c .before .before .row .ensures))
+loop-again c = (search needs, climbing-row (c .before .before .before .before .before .before .before .before .before .before .before .before .before .loop .inv .1) (c .before .before .before .before .before .before .before .before .before .before .before .before .before .before .before .before .before .before .pre) (c .before .before .before .before .before .before .before .before .before .before .next-line .ensures) (c .before .before .before .before .before .before .before .before .before .before .before .before .loop-test .taken) (c .before .before .before .before .before .line .given .1) (c .before .before .row .ensures))
 
 loop-again-2 : tie.Need-loop-again-2 Inv-loop μ-loop
-loop-again-2 c = (search needs, climbing-over (c .before .before .before .before .before .before .before .before .loop .inv .1) (c .before .before .before .before .before .before .before .before .before .before .before .before .before .pre .1) (c .before .before .before .before .before .next-line .ensures) (c .before .before .before .before .before .before .before .loop-test .taken) (c .enum-told .given .1))
+loop-again-2 c = (search needs, climbing-over (c .before .before .before .before .before .before .before .before .loop .inv .1) (c .before .before .before .before .before .before .before .before .before .before .before .before .before .pre) (c .before .before .before .before .before .next-line .ensures) (c .before .before .before .before .before .before .before .loop-test .taken) (c .enum-told .given .1))
 
 verdict-requires-2 : tie.Need-verdict-requires-2 Inv-loop μ-loop
-verdict-requires-2 c κs = room-now (c .before .before .before .loop .inv .1) (c .before .before .before .before .before .before .before .before .pre .1)
+verdict-requires-2 c κs = room-now (c .before .before .before .loop .inv .1) (c .before .before .before .before .before .before .before .before .pre)
 
 same-length : tie.Need-same-length Inv-loop μ-loop
 same-length c = c .before .before .before .before .before .before .loop .inv .0
 
 same-length-2 : tie.Need-same-length-2 Inv-loop μ-loop
 same-length-2 c =
-    let l = out-length (c .before .before .before .before .before .before .loop .inv .1) (c .before .before .before .before .before .before .before .before .before .before .before .pre .1) in
+    let l = out-length (c .before .before .before .before .before .before .loop .inv .1) (c .before .before .before .before .before .before .before .before .before .before .before .pre) in
     search needs
 
 returns : tie.Need-returns Inv-loop μ-loop
 returns c =
-    (climbed (c .before .before .before .before .before .before .loop .inv .1) (c .before .before .before .before .before .before .before .before .before .before .before .pre .1) (omega arith) (c .before .before .before .verdict .ensures) (omega (arith, c .before .before .verdict2 .ensures .1, out-length (c .before .before .before .before .before .before .loop .inv .1) (c .before .before .before .before .before .before .before .before .before .before .before .pre .1), c .before .before .before .before .before .before .loop .inv .1 .room)) (c .before .before .verdict2 .ensures .0), omega (arith, c .before .before .verdict2 .ensures .0 .0, c .before .before .verdict2 .ensures .1, c .before .before .before .before .before .before .loop .inv .1 .room))
+    (climbed (c .before .before .before .before .before .before .loop .inv .1) (c .before .before .before .before .before .before .before .before .before .before .before .pre) (omega arith) (c .before .before .before .verdict .ensures) (omega (arith, c .before .before .verdict2 .ensures .1, out-length (c .before .before .before .before .before .before .loop .inv .1) (c .before .before .before .before .before .before .before .before .before .before .before .pre), c .before .before .before .before .before .before .loop .inv .1 .room)) (c .before .before .verdict2 .ensures .0), omega (arith, c .before .before .verdict2 .ensures .0 .0, c .before .before .verdict2 .ensures .1, c .before .before .before .before .before .before .loop .inv .1 .room))
 
 pub climb-spec : {M : Type 1} → statement M
 climb-spec = tie.close (tie.spec Inv-loop μ-loop (λ c. search needs) loop-holds (λ c κs. search needs) (λ c. search needs) row-requires (λ c. search needs) (λ c. search needs) loop-again (λ c. search needs) (λ c. search needs) loop-again-2 (λ c κs. search needs) verdict-requires-2 same-length same-length-2 returns)
