@@ -52,5 +52,6 @@ def functions(root, crate):
 
 
 def edits(root):
-    """Every edit that the prover must refuse, as crate/name."""
-    return {f"{path.parts[-3]}/{path.stem}" for path in (root / "crates").glob("*/*/*.edit") if path.parts[-2] in ("must-fail", "tried")}
+    """Every edit that the prover must refuse, as crate/name; those of tests/alike, which span crates, as alike/name."""
+    kept = {f"{path.parts[-3]}/{path.stem}" for path in (root / "crates").glob("*/*/*.edit") if path.parts[-2] in ("must-fail", "tried")}
+    return kept | {f"alike/{path.stem}" for path in (root / "tests/alike").glob("*.edit")}

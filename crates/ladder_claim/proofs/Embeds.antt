@@ -42,6 +42,7 @@ Fair (Said.word w) = Unit {0}
 pub record Embeds (P : Ports) : Type 0 where
   pub sender : P .Sending → Sending
   pub receiver : P .Receiving → Receiving
+  pub same : (x y : P .Sending) → sender x ≡ sender y → x ≡ y
   pub asks : (s : P .Sending) (d out : List ℕ) → askOf (sender s) d out ≡ called sender (P .ask s d out)
   pub told : (g : Signal) (s : P .Sending) → signalledOf g (sender s) ≡ onto sender (P .signal g s)
   pub arrives : (r : P .Receiving) (f b : List ℕ) → arriveOf (receiver r) f b ≡ called receiver (P .receiveCall (P .arrival f) r b)
@@ -76,8 +77,14 @@ write-fair w d out =
     fair-left : Left Writer → Type 0
     fair-left x = Fair (x .says)
 
+pub read-same : (x y : Sender) → sending.Read x ≡ sending.Read y → x ≡ y
+read-same x y e = cc
+
+pub write-same : (x y : Writer) → sending.Write x ≡ sending.Write y → x ≡ y
+write-same x y e = cc
+
 abbrev pub read-embeds : Embeds readPorts
-read-embeds = record { sender = sending.Read; receiver = receiving.Read; asks = λ s d out. refl; told = λ g s. refl; arrives = λ r f b. refl; fair = read-fair }
+read-embeds = record { sender = sending.Read; receiver = receiving.Read; same = read-same; asks = λ s d out. refl; told = λ g s. refl; arrives = λ r f b. refl; fair = read-fair }
 
 abbrev pub write-embeds : Embeds writePorts
-write-embeds = record { sender = sending.Write; receiver = receiving.Write; asks = λ s d out. refl; told = λ g s. refl; arrives = λ r f b. refl; fair = write-fair }
+write-embeds = record { sender = sending.Write; receiver = receiving.Write; same = write-same; asks = λ s d out. refl; told = λ g s. refl; arrives = λ r f b. refl; fair = write-fair }

@@ -38,8 +38,8 @@ module _ {P : Ports} (E : Embeds P) (mark : P .Receiving → ℕ) (same : (y : P
   by-mark : Fills E start end
   by-mark =
       record {
-        confirmed = λ w g q n e. subst (λ (v : World P). v .report ≡ link.Report.none → step v Event.confirmed .report ≡ link.Report.delivered n → filledOf (E .receiver (v .receiving)) ≡ end) (g .ends) (λ a c. same _ ∙ f (g .events) (g .allowed) a n (inl c)) q e;
-        timeout = λ w g q n e. subst (λ (v : World P). v .report ≡ link.Report.none → step v Event.timeout .report ≡ link.Report.delivered n → filledOf (E .receiver (v .receiving)) ≡ end) (g .ends) (λ a c. same _ ∙ f (g .events) (g .allowed) a n (inr c)) q e;
+        confirmed = λ w es g q n e. subst (λ (v : World P). v .report ≡ link.Report.none → step v Event.confirmed .report ≡ link.Report.delivered n → filledOf (E .receiver (v .receiving)) ≡ end) (g .ends) (λ a c. same _ ∙ f es (g .allowed) a n (inl c)) q e;
+        timeout = λ w es g q n e. subst (λ (v : World P). v .report ≡ link.Report.none → step v Event.timeout .report ≡ link.Report.delivered n → filledOf (E .receiver (v .receiving)) ≡ end) (g .ends) (λ a c. same _ ∙ f es (g .allowed) a n (inr c)) q e;
       }
 
 pub read-filling : (r : Run) → Within r → (d b : List ℕ) → 1 ≤ r .limit → length d ≡ r .count → length b ≡ r .count → Fills read-embeds (fresh readPorts (read-sender r) (read-receiver r) d b) (r .count)

@@ -1,7 +1,7 @@
 -- A frame asked for in a ladder: it goes out while one is due, else frames of this round are unanswered.
 use Prim.Native.Nat.{ℕ, suc, _+_, _≤_, _<_}
 use mathlib.Core.List.{List}
-use mathlib.Core.Bool.{Bool, true, false, _&&_}
+use mathlib.Core.Bool.{Bool, true, false, _&&_, _||_, or-true}
 use mathlib.Core.Path.{_≡_, refl, sym, ap, subst, _∙_}
 use native.Mathlib.Omega.{arith}
 use lib.Dec.{leb, ltb, eqb}
@@ -12,7 +12,7 @@ use Rattle.status.specs.Answer.{Left}
 use Rattle.transfer.specs.declared.Transfer.{Transfer}
 use Rattle.transfer.specs.Limits.{past}
 use Rattle.sender_steps.specs.Record.{lentOf}
-use Rattle.sender_steps.specs.Transmit.{frameOf, sentOf}
+use Rattle.sender_steps.specs.Transmit.{frameOf, sentOf, waitsOf}
 use Rattle.sender_steps.specs.declared.types.Sender.{Sender}
 use Rattle.sender_steps.proofs.Held.{lent-again}
 use Rattle.sender_steps.proofs.Due.{Due}
@@ -40,7 +40,7 @@ module _ (C : Course) (fs d : List ℕ) (sent : length d ≡ C .t .count) where
     open Live v using (going, nothing)
     open Going going using (s, j, m, sends, on, quiet, owed, undone, bound)
 
-    lent : lentOf s (length d) ≡ true
+    pub lent : lentOf s (length d) ≡ true
     lent = lent-again s (length d) (on .holds) (sent ∙ sym (ap (λ (x : Transfer). x .count) (on .transfer)))
 
     -- a port left as y that stands for the same record
@@ -88,6 +88,15 @@ module _ (C : Course) (fs d : List ℕ) (sent : length d ≡ C .t .count) where
         go true e = let k = C .few in absurd (omega (arith, next-needed C s (l .frames) j m on (undone (eqb-true (s .unanswered) 0 e))))
         go false e = omega (arith, eqb-false (s .unanswered) 0 e)
 
+    -- and the port waits
+    full-waits : ROWS-MOST ≤ l .frames → waitsOf s ≡ true
+    unfolding waitsOf
+    full-waits h = go (eqb (s .next) (s .burst .end)) refl
+      where
+        go : (t : Bool) → eqb (s .next) (s .burst .end) ≡ t → (s .nak || leb (s .transfer .window) (s .unanswered) || t) ≡ true
+        go true e = or-true (s .nak || leb (s .transfer .window) (s .unanswered))
+        go false e = let k = C .few in absurd (omega (arith, next-needed C s (l .frames) j m on (eqb-false _ _ e)))
+
     and-last : (t : Bool) → (t && true) ≡ t
     and-last true = refl
     and-last false = refl
@@ -98,6 +107,10 @@ module _ (C : Course) (fs d : List ℕ) (sent : length d ≡ C .t .count) where
         let q : leb (pastOf (l .sending)) COUNT-MOST ≡ true = le-leb _ _ (subst (λ (n : ℕ). n ≤ COUNT-MOST) (sym p) (C .small)) in
         (λ i. silent (nothing i) && ltb (l .frames) ROWS-MOST && q i) ∙ and-last (ltb (l .frames) ROWS-MOST)
 
+    -- no frame is asked for: the most rows are reached
+    pub shut : openOf l ≡ false → (waitsOf s ≡ true) × (1 ≤ s .unanswered)
+    shut e = let h = ltb-false (l .frames) ROWS-MOST (sym opens ∙ e) in (full-waits h, full h)
+
     pub outs : Asked l (outOf l fs d b)
     unfolding outOf pick
     outs = go (openOf l) refl
@@ -106,4 +119,4 @@ module _ (C : Course) (fs d : List ℕ) (sent : length d ≡ C .t .count) where
         go true e =
             let a = asks-as (l .sending) s d area sends lent in
             asked-by (askOf (l .sending) d area) (asking s d area lent (on .live) quiet undone (omega (arith, length-replicate {A = ℕ} 1_048 0))) (a .0) (a .1)
-        go false e = waiting (l .sending) sends (full (ltb-false (l .frames) ROWS-MOST (sym opens ∙ e)))
+        go false e = waiting (l .sending) sends (shut e .1)

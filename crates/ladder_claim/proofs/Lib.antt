@@ -6,11 +6,14 @@ pub mod Going
 pub mod Handing
 pub mod Answered
 pub mod Lines
+pub mod Rows
 pub mod Ends
 pub mod Reaches
+pub mod Rounds
 pub mod Embeds
 pub mod Owed
 pub mod Stands
+pub mod Waiting
 pub mod Sent
 pub mod Closed
 pub mod Climbed

@@ -23,7 +23,7 @@ use Rattle.ladder_claim.proofs.Handing.{Asked, outs}
 use Rattle.ladder_claim.proofs.Answered.{closes, closed-frames}
 
 -- no frame is asked for any more
-over : (l : Ladder) (fs d b : List ℕ) → silent (l .report) ≡ false → outOf l fs d b ≡ outBy (nothingOf l (l .sending)) b
+pub over : (l : Ladder) (fs d b : List ℕ) → silent (l .report) ≡ false → outOf l fs d b ≡ outBy (nothingOf l (l .sending)) b
 unfolding outOf pick
 over l fs d b e i = pick (e i && ltb (l .frames) ROWS-MOST && leb (pastOf (l .sending)) COUNT-MOST) (askedBy l (askOf (l .sending) d area) fs b) (outBy (nothingOf l (l .sending)) b)
 

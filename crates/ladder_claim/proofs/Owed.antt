@@ -34,6 +34,10 @@ owedBy Nonak = 0
 owedBy Lost = 0
 
 -- of k frames from frame n on
+abbrev pub fatesIn : List ℕ → ℕ → ℕ → List Fate
+fatesIn fs zero n = []
+fatesIn fs (suc k) n = fateOf fs n ∷ fatesIn fs k (n + 1)
+
 abbrev pub answersIn : List ℕ → ℕ → ℕ → List Confirmation
 answersIn fs zero n = []
 answersIn fs (suc k) n = joined (fateOf fs n) (answersIn fs k (n + 1))
@@ -58,6 +62,10 @@ module _ (fs : List ℕ) where
   next-fate k n = ap (fateOf fs) (omega arith)
 
   -- the last frame's are the last
+  fates-last : (k n : ℕ) → fatesIn fs (suc k) n ≡ fatesIn fs k n ++ (fateOf fs (n + k) ∷ [])
+  fates-last zero n = ap (λ (i : ℕ). fateOf fs i ∷ []) (sym (add-zero n))
+  fates-last (suc k) n = ap (λ (v : List Fate). fateOf fs n ∷ v) (fates-last k (n + 1) ∙ ap (λ (x : Fate). fatesIn fs k (n + 1) ++ (x ∷ [])) (next-fate k n))
+
   answers-last : (k n : ℕ) → answersIn fs (suc k) n ≡ answersIn fs k n ++ joined (fateOf fs (n + k)) []
   answers-last zero n = ap (λ (i : ℕ). joined (fateOf fs i) []) (sym (add-zero n))
   answers-last (suc k) n =
@@ -75,27 +83,29 @@ module _ (fs : List ℕ) where
   faults-last : (n : ℕ) → faultsOf fs (n + 1) ≡ faultsOf fs n + fault (fateOf fs n)
   faults-last n = ap (faultsOf fs) (add-one n)
 
-  -- n frames went out, those before this round m: the answers on the way, and what is counted
-  pub record Level (n m : ℕ) (confirmations : List Confirmation) (t : Tally) : Type 0 where
+  -- n frames went out, those before this round m: the fates of this round, the answers on the way, and what is counted
+  pub record Level (n m : ℕ) (current : List Fate) (confirmations : List Confirmation) (t : Tally) : Type 0 where
     pub order : m ≤ n
+    pub fates-are : current ≡ fatesIn fs (n - m) m
     pub answers-are : confirmations ≡ answersIn fs (n - m) m
     pub lost : lostIn fs (n - m) m ≤ t .lost
-    pub faults : t .faults + owedIn fs (n - m) m ≤ faultsOf fs n
+    pub faults : t .faults + owedIn fs (n - m) m ≡ faultsOf fs n
 
   -- a round begins
-  pub level-first : (n : ℕ) (t : Tally) → t .faults ≤ faultsOf fs n → Level n n [] t
+  pub level-first : (n : ℕ) (t : Tally) → t .faults ≡ faultsOf fs n → Level n n [] [] t
   level-first n t f =
       let e : n - n ≡ 0 = omega arith in
       record {
         order = omega arith;
+        fates-are = ap (λ (k : ℕ). fatesIn fs k n) (sym e);
         answers-are = ap (λ (k : ℕ). answersIn fs k n) (sym e);
         lost = subst (λ (k : ℕ). lostIn fs k n ≤ t .lost) (sym e) (omega arith);
-        faults = subst (λ (k : ℕ). t .faults + owedIn fs k n ≤ faultsOf fs n) (sym e) (omega arith);
+        faults = subst (λ (k : ℕ). t .faults + owedIn fs k n ≡ faultsOf fs n) (sym e) (omega arith);
       }
 
   -- frame n goes out with fate x, which adds to the counts so much at once
-  pub level-on : {n m : ℕ} {a : List Confirmation} {t u : Tally} → Level n m a t → u .lost ≡ t .lost + lostBy (fateOf fs n) → u .faults + owedBy (fateOf fs n) ≡ t .faults + fault (fateOf fs n) → Level (n + 1) m (a ++ joined (fateOf fs n) []) u
-  level-on {n} {m} {a} {t} {u} l el ef =
+  pub level-on : {n m : ℕ} {c : List Fate} {a : List Confirmation} {t u : Tally} → Level n m c a t → u .lost ≡ t .lost + lostBy (fateOf fs n) → u .faults + owedBy (fateOf fs n) ≡ t .faults + fault (fateOf fs n) → Level (n + 1) m (c ++ (fateOf fs n ∷ [])) (a ++ joined (fateOf fs n) []) u
+  level-on {n} {m} {c} {a} {t} {u} l el ef =
       let o = l .order in
       let e : n + 1 - m ≡ suc (n - m) = omega arith in
       let at : m + (n - m) ≡ n = omega arith in
@@ -105,6 +115,11 @@ module _ (fs : List ℕ) where
       ap (λ (k : ℕ). owedIn fs k m) e ∙ owed-last (n - m) m ∙ ap (λ (k : ℕ). owedIn fs (n - m) m + owedBy (fateOf fs k)) at in
       record {
         order = omega arith;
+        fates-are =
+            ap (λ (v : List Fate). v ++ (fateOf fs n ∷ [])) (l .fates-are)
+            ∙ ap (λ (k : ℕ). fatesIn fs (n - m) m ++ (fateOf fs k ∷ [])) (sym at)
+            ∙ sym (fates-last (n - m) m)
+            ∙ ap (λ (k : ℕ). fatesIn fs k m) (sym e);
         answers-are =
             ap (λ (v : List Confirmation). v ++ joined (fateOf fs n) []) (l .answers-are)
             ∙ ap (λ (k : ℕ). answersIn fs (n - m) m ++ joined (fateOf fs k) []) (sym at)
@@ -113,3 +128,9 @@ module _ (fs : List ℕ) where
         lost = omega (arith, l .lost);
         faults = omega (arith, l .faults, faults-last n);
       }
+
+  -- the round is over: every fault is counted
+  pub level-over : {n m : ℕ} {c : List Fate} {a : List Confirmation} {t : Tally} → Level n m c a t → m ≡ n → (c ≡ []) × (t .faults ≡ faultsOf fs n)
+  level-over {n} {m} {c} {a} {t} l e =
+      let z : n - m ≡ 0 = omega arith in
+      let o : owedIn fs (n - m) m ≡ 0 = ap (λ (k : ℕ). owedIn fs k m) z in (l .fates-are ∙ ap (λ (k : ℕ). fatesIn fs k m) z, omega (arith, l .faults))

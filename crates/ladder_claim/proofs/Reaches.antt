@@ -5,13 +5,12 @@ use Rattle.link.specs.Ports.{Ports}
 use Rattle.link.specs.World.{World, Event, step, run, Allows, Allowed}
 
 module _ {P : Ports} where
-  pub record Reaches (start w : World P) : Type 0 where
-    pub events : List (Event P)
+  pub record Reaches (start : World P) (events : List (Event P)) (w : World P) : Type 0 where
     pub allowed : Allowed start events
     pub ends : run start events ≡ w
 
-  pub nothing-yet : (start : World P) → Reaches start start
-  nothing-yet start = record { events = []; allowed = tt; ends = refl }
+  pub nothing-yet : (start : World P) → Reaches start [] start
+  nothing-yet start = record { allowed = tt; ends = refl }
 
   run-last : (w : World P) (es : List (Event P)) (e : Event P) → run w (es ++ (e ∷ [])) ≡ step (run w es) e
   run-last w [] e = refl
@@ -22,10 +21,13 @@ module _ {P : Ports} where
   allowed-last w (y ∷ es) e a x = (a .0, allowed-last (step w y) es e (a .1) x)
 
   -- one event more
-  pub reaches-on : {start w : World P} → Reaches start w → (e : Event P) → Allows w e → Reaches start (step w e)
-  reaches-on {start} {w} r e a =
+  pub reaches-on : {start w : World P} {es : List (Event P)} → Reaches start es w → (e : Event P) → Allows w e → Reaches start (es ++ (e ∷ [])) (step w e)
+  reaches-on {start} {w} {es} r e a =
       record {
-        events = r .events ++ (e ∷ []);
-        allowed = allowed-last start (r .events) e (r .allowed) (subst (λ (v : World P). Allows v e) (sym (r .ends)) a);
-        ends = run-last start (r .events) e ∙ (λ i. step (r .ends i) e);
+        allowed = allowed-last start es e (r .allowed) (subst (λ (v : World P). Allows v e) (sym (r .ends)) a);
+        ends = run-last start es e ∙ (λ i. step (r .ends i) e);
       }
+
+  -- the same events, written otherwise
+  pub reaches-as : {start w : World P} {es es′ : List (Event P)} → es ≡ es′ → Reaches start es w → Reaches start es′ w
+  reaches-as {start} {w} e r = subst (λ (v : List (Event P)). Reaches start v w) e r

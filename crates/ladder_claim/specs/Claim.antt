@@ -13,6 +13,7 @@ use Rattle.link.specs.World as link
 use Rattle.link.specs.Delivers.{BurstParameters, faultless}
 use Rattle.link.specs.Claim.{Editions, Starts}
 use Rattle.ladder_text.specs.Rows.{withinLimits}
+use Rattle.ladder_text.specs.declared.types.Fate.{Fate}
 use Rattle.ladder_text.specs.declared.types.Run.{Run}
 use Rattle.ladder_text.specs.declared.types.Row.{Row}
 use Rattle.ladder_run.specs.Ends.{filledOf}
@@ -24,6 +25,8 @@ use Rattle.ladder_run.specs.declared.types.Report.{Report}
 use Rattle.ladder_run.specs.declared.types.Report.the-variants.{Nothing, Delivered, Failed}
 use Rattle.ladder_run.specs.declared.types.Shown.{Shown}
 use Rattle.ladder_run.specs.declared.types.Ladder.{Ladder}
+use Rattle.ladder_claim.specs.Rows.{RowsFrom}
+use Rattle.ladder_claim.specs.Rounds.{each, roundOf, Waits}
 
 -- line one as the burst that is delivered
 abbrev pub burstOf : Run → BurstParameters
@@ -59,6 +62,8 @@ pub record Ended (r : Run) (fs : List ℕ) (x : Whole) : Type 0 where
   pub number : Numbered (x .last .report)
   pub frames : x .last .frames ≡ length (x .rows)
   pub counted : framesIn (x .last .report) ≡ length (x .rows)
+  -- row by row: frame, fate, and whether the frame arrived
+  pub rows : RowsFrom fs 0 (x .rows)
   -- fates listed, the rest of one window, a faultless transfer
   pub most : length (x .rows) ≤ length fs + (r .window - 1) + faultless (burstOf r)
 
@@ -81,7 +86,7 @@ pub record Matches {P : Ports} (fs : List ℕ) (w : World P) (x : Whole) : Type 
   pub received : w .received ≡ x .received
   pub rows : map (λ f. shownOf (decode f)) (w .handed) ≡ map shownIn (x .rows)
   -- a timeout after a loss is not early, so it adds none
-  pub faults : w .tally .faults ≤ faultsOf fs (x .last .frames)
+  pub faults : w .tally .faults ≡ faultsOf fs (x .last .frames)
 
 -- "a ladder is one of its lists": from a start of the claim, with the ladder's sent and received data
 pub record Listed (r : Run) (fs d b : List ℕ) (x : Whole) : Type 1 where
@@ -91,7 +96,12 @@ pub record Listed (r : Run) (fs d b : List ℕ) (x : Whole) : Type 1 where
   pub starts : Starts P editions (burstOf r) start
   pub sent : start .sent ≡ d
   pub room : start .received ≡ b
+  -- the rows' fates, round by round, and the events of the rounds
+  pub rounds : List (List Fate)
+  pub fates : each (λ xs. xs) rounds ≡ map (λ row. row .fate) (x .rows)
   pub events : List (Event P)
+  pub in-order : events ≡ each roundOf rounds
+  pub waits : Waits start rounds
   pub allowed : Allowed start events
   pub matches : Matches fs (run start events) x
 

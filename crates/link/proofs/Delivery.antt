@@ -6,6 +6,7 @@ use mathlib.Core.Logic.{_⊎_, inl, inr, ⊎-elim}
 use mathlib.Core.Path.{_≡_, refl, sym, ap, ap₂, subst, _∙_}
 use native.Mathlib.Omega.{arith}
 use lib.ListN.{length, getD}
+use Rattle.sender_steps.specs.Transmit.{frameOf}
 use Rattle.sender.specs.Transmit.{nextOf}
 use Rattle.sender_steps.specs.declared.types.Sender.{Sender}
 use Rattle.sender_steps.proofs.Held.{held}
@@ -28,6 +29,7 @@ use Rattle.link.proofs.Arriving as live-arriving
 use Rattle.link.proofs.Answering as live-answering
 use Rattle.link.proofs.Closing as live-closing
 use Rattle.link.proofs.Resting as done
+use Rattle.link.proofs.Onward as onward
 
 module _ {P : Ports} (S : Setting) (M : Simulates P (S .tptt)) where
   -- ── every allowed event keeps the invariant ──
@@ -103,6 +105,8 @@ module _ {P : Ports} (S : Setting) (M : Simulates P (S .tptt)) where
           counted = λ f n. ⊎-elim (λ h. none-told (w .report) (l .silent) n h) (λ h. none-failed (w .report) (l .silent) f n h);
           concluded = λ h. absurd (never-stuck w l h);
           succeeds = λ h. absurd (never-stuck w l h);
+          once = λ q. absurd (q (l .silent));
+          goes-on = λ q z. let b = onward.long S M w l z in (length (frameOf (l .s) (w .sent)), b .0, b .1, onward.due S M w l z);
         }
 
     -- what was reported says all
@@ -121,6 +125,10 @@ module _ {P : Ports} (S : Setting) (M : Simulates P (S .tptt)) where
       said-report (Reported.delivers h) e = inl (length (w .handed), e)
       said-report (Reported.fails f lo hi p) e = inr ((f, (length (w .handed), e, lo, hi)), p)
 
+    was-told : (w : World P) {q : Report} → Reported S M (w .received) (w .handed) (w .tally .faults) q → q ≡ Report.none → ⊥
+    was-told w (Reported.delivers h) e = differ (cc)
+    was-told w (Reported.fails f lo hi p) e = differ (cc)
+
     back : (i : ℕ) → (S .start + i) - S .start ≡ i
     back i = omega arith
 
@@ -134,6 +142,8 @@ module _ {P : Ports} (S : Setting) (M : Simulates P (S .tptt)) where
           counted = said-count w (d .reported);
           concluded = λ h. ⊎-elim (λ a. inl a) (λ a. inr (a .0)) (said-report w (d .reported) refl);
           succeeds = λ h few. ⊎-elim (λ a. a) (λ a. absurd (omega (arith, a .1))) (said-report w (d .reported) refl);
+          once = λ q. (M .asks-quiet (w .sending), onward.signals-once S M w d);
+          goes-on = λ q. absurd (was-told w (d .reported) q);
         }
 
     -- from a start that is Live, after every allowed list of events

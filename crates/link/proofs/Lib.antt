@@ -2,6 +2,7 @@ pub mod Grid
 pub mod Setting
 pub mod Simulates
 pub mod Others
+pub mod Quiet
 pub mod Flight
 pub mod Placed
 pub mod Invariant
@@ -14,6 +15,7 @@ pub mod Closing
 pub mod Resting
 pub mod Late
 pub mod Passing
+pub mod Onward
 pub mod Delivery
 pub mod Filled
 pub mod ReadSimulates
@@ -24,7 +26,11 @@ pub mod TakenAlike
 pub mod Resent
 pub mod TakenAgain
 pub mod EndedRefuses
+pub mod ByAnswer
 pub mod OneFault
+pub mod FaultsCounted
 pub mod CarriesValue
 pub mod ResponseTimeout
 pub mod OnlyTheRead
+pub mod SameSending
+pub mod SameReceiving

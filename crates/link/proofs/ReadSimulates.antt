@@ -41,6 +41,7 @@ use Rattle.link.specs.Ports.{Signal}
 use Rattle.link.specs.Calls.{signalled, readSignalled, SenderCall, senderCall, ReaderCall, readerCall}
 use Rattle.link.specs.Reading.{SenderLate, ReaderLate, readPorts}
 use Rattle.link.proofs.Others.{Steady}
+use Rattle.link.proofs.Quiet.{read-quiet}
 use Rattle.link.proofs.Simulates.{Addressed, Simulates, signal-shape}
 
 -- each record is a read's
@@ -156,6 +157,7 @@ read-simulates tptt =
       TakesAs = ReadsAs;
       asks-as = sends-ask;
       signals-as = sends-signal;
+      asks-quiet = read-quiet;
       arrives-as = λ y r h iu b e l o a c. subst (λ (v : Receiver). ReadsAs (readArrivalOf v (encode h iu) (length b) .left) (arrivalOf r (h .offset) (h .flags .cdp) (length iu) (length b) .left) × (storing (readArrivalOf v (encode h iu) (length b) .says) (headerIn (encode h iu) .offset) (iuOf (encode h iu)) b ≡ storing (arrivalOf r (h .offset) (h .flags .cdp) (length iu) (length b) .says) (h .offset) iu b)) (sym (e .is)) (reads-on r (e .read) h iu b tptt l o a c, lands r (e .read) h iu b tptt l o a c);
       steady = read-steady;
       late-sends = λ c l x s e h. sender-late c l x s e;

@@ -24,6 +24,7 @@ use Rattle.receiver_steps.specs.declared.types.Receiver.{Receiver}
 use Rattle.link.specs.Ports.{Signal, Ports}
 use Rattle.link.specs.Calls.{signalled}
 use Rattle.link.proofs.Others.{Steady}
+use Rattle.link.proofs.Quiet.{Quiet}
 
 -- a DATA frame for the receiving record r
 pub record Addressed (τ : ℕ) (h : Header) (r : Receiver) : Type 0 where
@@ -41,6 +42,8 @@ pub record Simulates (P : Ports) (tptt : ℕ) : Type 1 where
       SendsAs (P .ask x d out .left) (nextOf s d out .left) × (P .ask x d out .says ≡ nextOf s d out .says) × (P .ask x d out .lent ≡ handing (nextOf s d out .says) (frameOf s d) out)
   pub signals-as : (g : Signal) (x : P .Sending) (s : Sender) → SendsAs x s → holdsOf s ≡ true →
       SendsAs (P .signal g x .left) (signalled g s .left) × (P .signal g x .says ≡ signalled g s .says)
+  -- a frame asked for reports nothing
+  pub asks-quiet : (x : P .Sending) (d out : List ℕ) → Quiet (P .ask x d out .says)
   pub arrives-as : (y : P .Receiving) (r : Receiver) (h : Header) (iu b : List ℕ) → TakesAs y r → receiver.lentOf r (length b) ≡ true → r .ended ≡ false →
       Addressed tptt h r → writable h (length iu) ≡ true →
       TakesAs (P .receiveCall (P .arrival (encode h iu)) y b .left) (arrivalOf r (h .offset) (h .flags .cdp) (length iu) (length b) .left) ×

@@ -57,6 +57,7 @@ use Rattle.link.specs.Calls.{signalled, writeSignalled, targetSignalled,
 use Rattle.link.specs.Reading.{IsResponse}
 use Rattle.link.specs.Writing.{TargetLate, TargetTimes, writePorts}
 use Rattle.link.proofs.Others.{Steady}
+use Rattle.link.proofs.Quiet.{write-quiet}
 use Rattle.link.proofs.Simulates.{Addressed, Simulates, signal-shape}
 
 -- ── the initiator ──
@@ -250,6 +251,7 @@ write-simulates tptt =
       TakesAs = TakesAs tptt;
       asks-as = writes-ask;
       signals-as = writes-signal;
+      asks-quiet = write-quiet;
       arrives-as = arrives-at;
       steady = write-steady;
       late-sends = writes-late;

@@ -1,11 +1,13 @@
--- What holds after a list of link events from a start of one burst: demand 3's six parts, one record.
+-- What holds after a list of link events from a start of one burst: demand 3's six parts, and two that leave no room beside them, one record.
 use Prim.Native.Nat.{ℕ, _+_, _-_, _*_, _/_, _≤_, _<_}
 use mathlib.Core.List.{List, []}
 use mathlib.Core.Logic.{_⊎_}
 use mathlib.Core.Path.{_≡_}
 use lib.ListN.{length, getD}
-use Rattle.status.specs.Answer.{Word, Said}
-use Rattle.link.specs.Ports.{Ports}
+use lib.Dec.{leb}
+use Rattle.status.specs.Pick.{pick}
+use Rattle.status.specs.Answer.{Word, Said, view}
+use Rattle.link.specs.Ports.{Signal, Ports}
 use Rattle.link.specs.Tally.{nothing}
 use Rattle.link.specs.World.{World, Report, Reported}
 
@@ -65,3 +67,10 @@ module _ {P : Ports} where
     pub concluded : Concluded w → Delivered w ⊎ LinkFailed w
     -- 6: "with no more faults than the retry limit, delivery"
     pub succeeds : Concluded w → w .tally .faults ≤ b .limit → Delivered w
+    -- 7: the report is the only one: after it no frame asked for, with any buffers, and no ACK, NAK, timeout or cut reports anything
+    pub once : Reported w →
+        ((d out : List ℕ) → view (P .ask (w .sending) d out .says) .report ≡ Report.none) ×
+        ((g : Signal) → (g ≡ Signal.loss → ⊥) → view (P .signal g (w .sending) .says) .report ≡ Report.none)
+    -- 8: with no report and nothing unanswered a frame is due, of n bytes: asked for, it is handed out, or 3 where the output buffer is shorter
+    pub goes-on : w .report ≡ Report.none → w .tally .unanswered ≡ 0 →
+        (n : ℕ) × (24 < n) × (n ≤ 1_048) × ((out : List ℕ) → P .ask (w .sending) (w .sent) out .says ≡ pick (leb n (length out)) (Said.frame n) (Said.refused 3))

@@ -4,12 +4,16 @@ pub mod Tally
 pub mod OneFault
 pub mod World
 pub mod Delivers
+pub mod FaultsCounted
 pub mod Reading
 pub mod Writing
 pub mod Claim
 pub mod TakenAlike
 pub mod Resent
 pub mod EndedRefuses
+pub mod ByAnswer
 pub mod CarriesValue
 pub mod ResponseTimeout
 pub mod OnlyTheRead
+pub mod SameSending
+pub mod SameReceiving

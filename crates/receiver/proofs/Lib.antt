@@ -1,3 +1,4 @@
 pub mod Buffer
 pub mod Views
 pub mod Kept
+pub mod Marks

@@ -1,9 +1,8 @@
 -- What a call of the receiving port comes to, as plain facts.
-use Prim.Native.Nat.{ℕ, _+_, _≤_, _<_, max}
+use Prim.Native.Nat.{ℕ, _+_, _≤_, _<_}
 use mathlib.Core.Bool.{Bool, true, false}
 use mathlib.Core.Path.{_≡_, refl}
 use native.Mathlib.Omega.{arith}
-use lib.Dec.{eqb}
 use borrow.Author.Tests.{le-leb}
 use Rattle.status.specs.Entry.{entryOf}
 use Rattle.status.specs.Pick.{pick}
@@ -20,14 +19,14 @@ use Rattle.receiver_steps.specs.declared.types.Receiver.{Receiver}
 use Rattle.receiver_steps.specs.declared.types.DataDisposition.{DataDisposition}
 use Rattle.receiver_steps.specs.declared.types.DataDisposition.the-variants.{Discard, Skip, Fail, Store}
 use Rattle.receiver_steps.proofs.Held.{Held, lent}
-use Rattle.receiver_steps.proofs.Judged.{Misplaced, Inside, OutOfStep, InStep, Judged, judged}
+use Rattle.receiver_steps.proofs.Judged.{Misplaced, Placed, Inside, OutOfStep, InStep, Judged, judged}
 
 -- a frame at a port that neither 1 nor 2 refuses
 pub data Arrived (r : Receiver) (offset : ℕ) (cdp : Bool) (n : ℕ) : Left Receiver → Type 0 where
   full : r .filled ≡ r .end → Arrived r offset cdp n (r saying Said.word Word.discarded)
   misplaced : (r .filled ≡ r .end → ⊥) → Misplaced r offset cdp → Arrived r offset cdp n (failedOf r 20)
-  long : (r .filled ≡ r .end → ⊥) → r .end < offset + n → Arrived r offset cdp n (failedOf r 21)
-  empty : (r .filled ≡ r .end → ⊥) → n ≡ 0 → Arrived r offset cdp n (failedOf r 22)
+  long : Placed r offset cdp → r .end < offset + n → Arrived r offset cdp n (failedOf r 21)
+  empty : Placed r offset cdp → n ≡ 0 → Arrived r offset cdp n (failedOf r 22)
   skipped : Inside r offset n → OutOfStep r offset cdp → Arrived r offset cdp n (waitingOf r saying Said.word Word.discarded)
   stored : Inside r offset n → InStep r offset cdp → Arrived r offset cdp n (storedBy r offset n)
 
@@ -89,7 +88,7 @@ module _ (r : Receiver) (offset : ℕ) (cdp : Bool) (n : ℕ) where
       go (Arrived.long o p) = failed-ended r 21
       go (Arrived.empty o p) = failed-ended r 22
       go (Arrived.skipped i s) = tt
-      go (Arrived.stored i s) = picked (λ (a : Said). After Ended a r (storedOf r offset n)) (eqb (max (r .filled) (offset + n)) (r .end)) Said.received Said.stored tt tt
+      go (Arrived.stored i s) = picked (λ (a : Said). After Ended a r (storedOf r offset n)) _ Said.received Said.stored tt tt
 
   -- an ended port takes no frame
   pub ended-refuses : (m : ℕ) → r .ended ≡ true → (k : ℕ) × (arrivalOf r offset cdp n m ≡ (r saying Said.refused k))

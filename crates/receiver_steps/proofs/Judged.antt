@@ -5,7 +5,7 @@ use mathlib.Core.Logic.{_⊎_, inl, inr}
 use mathlib.Core.Path.{_≡_, refl}
 use native.Mathlib.Omega.{arith}
 use lib.Dec.{leb, ltb, eqb}
-use borrow.Author.Tests.{leb-true, ltb-true, ltb-false, eqb-true, eqb-false}
+use borrow.Author.Tests.{leb-true, leb-false, ltb-true, ltb-false, eqb-true, eqb-false}
 use Rattle.status.specs.Pick.{pick}
 use Rattle.status.specs.declared.words.Failure.the-variants.{DataOffsetError, TooMuchData, IncorrectDataLength}
 use Rattle.receiver_steps.specs.Record.{lentOf}
@@ -22,6 +22,14 @@ pub data Misplaced (r : Receiver) (offset : ℕ) (cdp : Bool) : Type 0 where
   beyond : r .end ≤ offset → Misplaced r offset cdp
   unexpected : r .transfer .limit ≡ 0 → (offset ≡ r .expected → ⊥) → Misplaced r offset cdp
   ahead : 0 < r .transfer .limit → cdp ≡ true → r .filled < offset → Misplaced r offset cdp
+
+-- number 20 does not apply in a burst that is not filled
+pub record Placed (r : Receiver) (offset : ℕ) (cdp : Bool) : Type 0 where
+  pub unfilled : r .filled ≡ r .end → ⊥
+  pub low : r .base ≤ offset
+  pub high : offset < r .end
+  pub off : r .transfer .limit ≡ 0 → offset ≡ r .expected
+  pub on : 0 < r .transfer .limit → cdp ≡ true → offset ≤ r .filled
 
 -- none of 20, 21 and 22 in a burst that is not filled
 pub record Inside (r : Receiver) (offset n : ℕ) : Type 0 where
@@ -45,16 +53,10 @@ pub data InStep (r : Receiver) (offset : ℕ) (cdp : Bool) : Type 0 where
 pub data Judged (r : Receiver) (offset : ℕ) (cdp : Bool) (n : ℕ) : DataDisposition → Type 0 where
   full : r .filled ≡ r .end → Judged r offset cdp n Discard
   misplaced : (r .filled ≡ r .end → ⊥) → Misplaced r offset cdp → Judged r offset cdp n (Fail DataOffsetError)
-  long : (r .filled ≡ r .end → ⊥) → r .end < offset + n → Judged r offset cdp n (Fail TooMuchData)
-  empty : (r .filled ≡ r .end → ⊥) → n ≡ 0 → Judged r offset cdp n (Fail IncorrectDataLength)
+  long : Placed r offset cdp → r .end < offset + n → Judged r offset cdp n (Fail TooMuchData)
+  empty : Placed r offset cdp → n ≡ 0 → Judged r offset cdp n (Fail IncorrectDataLength)
   skipped : Inside r offset n → OutOfStep r offset cdp → Judged r offset cdp n Skip
   stored : Inside r offset n → InStep r offset cdp → Judged r offset cdp n Store
-
--- number 20 does not apply
-record Placed (r : Receiver) (offset : ℕ) (cdp : Bool) : Type 0 where
-  low : r .base ≤ offset
-  off : r .transfer .limit ≡ 0 → offset ≡ r .expected
-  on : 0 < r .transfer .limit → cdp ≡ true → offset ≤ r .filled
 
 -- the two tests of the definition, by their answer
 data Placing (r : Receiver) (offset : ℕ) (cdp : Bool) : Bool → Type 0 where
@@ -66,18 +68,18 @@ data Stepping (r : Receiver) (offset : ℕ) (cdp : Bool) : Bool → Type 0 where
   inside : InStep r offset cdp → Stepping r offset cdp false
 
 module _ (r : Receiver) (offset : ℕ) (cdp : Bool) where
-  placing : Placing r offset cdp (misplacedOf r offset cdp)
+  placing : (r .filled ≡ r .end → ⊥) → Placing r offset cdp (misplacedOf r offset cdp)
   unfolding misplacedOf pick
-  placing = go (ltb offset (r .base)) (leb (r .end) offset) (eqb (r .transfer .limit) 0) (eqb offset (r .expected)) cdp (ltb (r .filled) offset) refl refl refl refl refl refl
+  placing unfilled = go (ltb offset (r .base)) (leb (r .end) offset) (eqb (r .transfer .limit) 0) (eqb offset (r .expected)) cdp (ltb (r .filled) offset) refl refl refl refl refl refl
     where
       go : (a b l c d e : Bool) → ltb offset (r .base) ≡ a → leb (r .end) offset ≡ b → eqb (r .transfer .limit) 0 ≡ l → eqb offset (r .expected) ≡ c → cdp ≡ d → ltb (r .filled) offset ≡ e → Placing r offset cdp (a || b || pick l (not c) (d && e))
       go true b l c d e p q s t u v = wrong (under (ltb-true _ _ p))
       go false true l c d e p q s t u v = wrong (beyond (leb-true _ _ q))
-      go false false true true d e p q s t u v = right (record { low = ltb-false _ _ p; off = λ _. eqb-true _ _ t; on = λ z. absurd (omega (arith, eqb-true)) })
+      go false false true true d e p q s t u v = right (record { unfilled = unfilled; low = ltb-false _ _ p; high = leb-false _ _ q; off = λ _. eqb-true _ _ t; on = λ z. absurd (omega (arith, eqb-true)) })
       go false false true false d e p q s t u v = wrong (unexpected (eqb-true _ _ s) (eqb-false _ _ t))
       go false false false c true true p q s t u v = wrong (ahead (omega (arith, eqb-false (r .transfer .limit) 0 s)) u (ltb-true _ _ v))
-      go false false false c true false p q s t u v = right (record { low = ltb-false _ _ p; off = λ z. absurd (eqb-false _ _ s z); on = λ _ _. ltb-false _ _ v })
-      go false false false c false e p q s t u v = right (record { low = ltb-false _ _ p; off = λ z. absurd (eqb-false _ _ s z); on = λ _ z. differ (cc) })
+      go false false false c true false p q s t u v = right (record { unfilled = unfilled; low = ltb-false _ _ p; high = leb-false _ _ q; off = λ z. absurd (eqb-false _ _ s z); on = λ _ _. ltb-false _ _ v })
+      go false false false c false e p q s t u v = right (record { unfilled = unfilled; low = ltb-false _ _ p; high = leb-false _ _ q; off = λ z. absurd (eqb-false _ _ s z); on = λ _ z. differ (cc) })
 
   stepping : Placed r offset cdp → Stepping r offset cdp (outOfStep r offset cdp)
   unfolding outOfStep
@@ -92,18 +94,21 @@ module _ (r : Receiver) (offset : ℕ) (cdp : Bool) where
 
   pub judged : (n : ℕ) → Judged r offset cdp n (dispositionOf r offset cdp n)
   unfolding dispositionOf pick
-  judged n = go (eqb (r .filled) (r .end)) (ltb (r .end) (offset + n)) (eqb n 0) refl placing refl refl stepping
+  judged n = go (eqb (r .filled) (r .end)) refl
     where
       last : {t : Bool} → Inside r offset n → Stepping r offset cdp t → Judged r offset cdp n (pick t Skip Store)
       last i (out s) = skipped i s
       last i (inside s) = stored i s
 
-      go : (a b c : Bool) {d e : Bool} → eqb (r .filled) (r .end) ≡ a → Placing r offset cdp d → ltb (r .end) (offset + n) ≡ b → eqb n 0 ≡ c → (Placed r offset cdp → Stepping r offset cdp e) → Judged r offset cdp n (pick a Discard (pick d (Fail DataOffsetError) (pick b (Fail TooMuchData) (pick c (Fail IncorrectDataLength) (pick e Skip Store)))))
-      go true b c p w q s f = full (eqb-true _ _ p)
-      go false b c p (wrong m) q s f = misplaced (eqb-false _ _ p) m
-      go false true c p (right w) q s f = long (eqb-false _ _ p) (ltb-true _ _ q)
-      go false false true p (right w) q s f = empty (eqb-false _ _ p) (eqb-true _ _ s)
-      go false false false p (right w) q s f = last (record { unfilled = eqb-false _ _ p; low = w .low; high = ltb-false _ _ q; some = omega (arith, eqb-false n 0 s) }) (f w)
+      behind : (b c : Bool) {d : Bool} → (r .filled ≡ r .end → ⊥) → Placing r offset cdp d → ltb (r .end) (offset + n) ≡ b → eqb n 0 ≡ c → Judged r offset cdp n (pick d (Fail DataOffsetError) (pick b (Fail TooMuchData) (pick c (Fail IncorrectDataLength) (pick (outOfStep r offset cdp) Skip Store))))
+      behind b c u (wrong m) q s = misplaced u m
+      behind true c u (right w) q s = long w (ltb-true _ _ q)
+      behind false true u (right w) q s = empty w (eqb-true _ _ s)
+      behind false false u (right w) q s = last (record { unfilled = u; low = w .low; high = ltb-false _ _ q; some = omega (arith, eqb-false n 0 s) }) (stepping w)
+
+      go : (a : Bool) → eqb (r .filled) (r .end) ≡ a → Judged r offset cdp n (pick a Discard (pick (misplacedOf r offset cdp) (Fail DataOffsetError) (pick (ltb (r .end) (offset + n)) (Fail TooMuchData) (pick (eqb n 0) (Fail IncorrectDataLength) (pick (outOfStep r offset cdp) Skip Store)))))
+      go true p = full (eqb-true _ _ p)
+      go false p = behind (ltb (r .end) (offset + n)) (eqb n 0) (eqb-false _ _ p) (placing (eqb-false _ _ p)) refl refl
 
 -- what is stored lies in the burst
 pub within : (r : Receiver) (offset : ℕ) (cdp : Bool) (n : ℕ) → dispositionOf r offset cdp n ≡ Store → offset + n ≤ r .end

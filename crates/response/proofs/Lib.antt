@@ -3,3 +3,4 @@ pub mod Due
 pub mod Ended
 pub mod Kept
 pub mod CarriesValue
+pub mod Resends

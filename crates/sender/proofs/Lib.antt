@@ -6,3 +6,5 @@ pub mod Kept
 pub mod Ended
 pub mod Shape
 pub mod CarriesValue
+pub mod Retries
+pub mod FirstBadEvent

@@ -1,3 +1,5 @@
 pub mod Record
 pub mod Transmit
 pub mod Confirmation
+pub mod Retries
+pub mod FirstBadEvent

@@ -9,3 +9,4 @@ pub mod Kept
 pub mod Again
 pub mod Moved
 pub mod Within
+pub mod Resends

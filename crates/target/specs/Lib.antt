@@ -3,6 +3,7 @@ pub mod Tag
 pub mod Record
 pub mod Transmit
 pub mod Confirmation
+pub mod Resends
 pub mod Arrival
 pub mod Time
 pub mod Read

@@ -35,4 +35,4 @@ crossing =
 
 pub tags : Tags
 unfolding computed-write
-tags = record { resent = refl; freed = refl }
+tags = record { resent = refl; freed = refl; three = refl; three-said = refl }

@@ -8,7 +8,17 @@ pub mod Further
 pub mod Write
 pub mod Silent
 pub mod Crossing
+pub mod Offers
 pub mod Repeat
 pub mod Response
+pub mod Screened
+pub mod Limits
+pub mod Resumes
+pub mod Waiting
+pub mod AtRest
+pub mod XferRdyRetries
+pub mod ResponseRecord
+pub mod TransferLimits
+pub mod MadeUp
 pub mod Rungs
 pub mod Ladders

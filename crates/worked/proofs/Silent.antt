@@ -9,7 +9,7 @@ use Rattle.link.specs.Claim.{sas11, Starts, Alike}
 use Rattle.link.specs.Writing.{writePorts}
 use Rattle.worked.specs.Run.{burst}
 use Rattle.worked.specs.Write.{ready}
-use Rattle.worked.specs.Silent.{host, device, twelve, empty, Silent, Discarded, repeatStart, repeatEvents, StoredRepeat}
+use Rattle.worked.specs.Silent.{host, device, twelve, empty, Silent, Discarded, repeatStart, repeatEvents, StoredRepeat, Summed}
 use Rattle.worked.proofs.WriteComputes.{computed-write}
 use Rattle.worked.proofs.Run.{given, _then_, worked}
 
@@ -41,3 +41,20 @@ repeat-allowed =
 pub stored-repeat : StoredRepeat
 unfolding computed-write repeatStart repeatEvents
 stored-repeat = worked repeat-starts repeat-allowed refl refl refl refl refl (inl (given {n = 6} (inl refl)))
+
+pub summed : Summed
+unfolding computed-write
+summed =
+    record {
+      past = refl;
+      past-unanswered = refl;
+      past-ended = refl;
+      ended = refl;
+      reached = refl;
+      not-reached = refl;
+      stored = refl;
+      unanswered = refl;
+      filled = refl;
+      acknowledged = refl;
+      counts-anew = refl;
+    }

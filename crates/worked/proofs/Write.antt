@@ -26,7 +26,7 @@ first-delivered : FirstDelivered
 unfolding computed-write firstStart firstEvents
 first-delivered = worked first-starts first-allowed refl refl refl refl refl (inl (given {n = 2} (inl refl)))
 
-second-starts : Starts writePorts sas11 (burst 5 10 3) secondStart
+pub second-starts : Starts writePorts sas11 (burst 5 10 3) secondStart
 unfolding computed-write secondStart
 second-starts = Starts.write sentFirst filledFirst ready ten half 36 refl refl refl alike (omega arith) refl refl refl refl refl
 

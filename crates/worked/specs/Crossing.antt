@@ -15,8 +15,8 @@ use Rattle.target.specs.declared.types.Target.{Target}
 use Rattle.link.specs.Ports.{Called, lending, frameIn, Signal}
 use Rattle.link.specs.Writing.{writePorts}
 use Rattle.link.specs.Calls.{TargetCall}
-use Rattle.worked.specs.Setting.{ten, space, response, busy}
-use Rattle.worked.specs.Write.{host, device, ready, xferRdy, dataFrame, writer, sentFirst}
+use Rattle.worked.specs.Setting.{between, ten, space, response, busy}
+use Rattle.worked.specs.Write.{host, device, ready, xferRdyFor, xferRdy, dataFrame, writer, sentFirst}
 
 -- a list of calls at a port: the record it leaves, its answers, the frames it hands out
 abbrev pub calls : {X : Type 0} → X → List (X → Called X) → X
@@ -115,6 +115,16 @@ signalled g y = writePorts .receiveCall (TargetCall.signals g) y []
 abbrev pub stores : List ℕ → Target → Called Target
 stores f y = writePorts .receiveCall (TargetCall.bytes f) y (replicate 10 0xff)
 
+-- each burst of ten bytes in bursts of four: its XFER_RDY is handed out, has its ACK, and one frame fills it
+abbrev pub threeBursts : List (Target → Called Target)
+threeBursts =
+    issues ∷ signalled Signal.ack ∷ stores (dataFrame 0 0 0 (10 ∷ 11 ∷ 12 ∷ 13 ∷ [])) ∷
+    issues ∷ signalled Signal.ack ∷ stores (dataFrame 1 4 0 (14 ∷ 15 ∷ 16 ∷ 17 ∷ [])) ∷
+    issues ∷ signalled Signal.ack ∷ stores (dataFrame 0 8 2 (18 ∷ 19 ∷ 0 ∷ 0 ∷ [])) ∷ issues ∷ []
+
+abbrev pub fours : Target
+fours = target.startOf (between 0xabcdef 0x123456 true 10 2 3 4)
+
 -- "a new TPTT", "the lowest number from 0 that is not in use"; resent with RETRANSMIT one, "the rest the same"
 pub record Tags : Type 0 where
   -- no DATA is stored: 0, 1, 2
@@ -128,3 +138,9 @@ pub record Tags : Type 0 where
       stores (dataFrame 1 0 0 (10 ∷ 11 ∷ 12 ∷ 13 ∷ [])) ∷ stores (dataFrame 1 4 3 (14 ∷ 0 ∷ 0 ∷ 0 ∷ [])) ∷
       issues ∷ signalled Signal.timeout ∷ issues ∷ []) ≡
       xferRdy 4 0 0 ∷ xferRdy 6 1 0 ∷ xferRdy 4 0 5 ∷ xferRdy 6 2 5 ∷ []
+  -- "the lesser of the burst size and what remains": 4, 4 and 2 bytes; 0, then 1, and 0 again, which left use with the store under 1; then "wait"
+  pub three : framesOf fours threeBursts ≡ xferRdyFor 4 0 0 4 ∷ xferRdyFor 4 1 4 4 ∷ xferRdyFor 4 0 8 2 ∷ []
+  pub three-said :
+      said fours threeBursts ≡
+      Said.frame 36 ∷ Said.word Word.acknowledged ∷ Said.received ∷ Said.frame 36 ∷ Said.word Word.acknowledged ∷ Said.received ∷
+      Said.frame 36 ∷ Said.word Word.acknowledged ∷ Said.received ∷ Said.word Word.wait ∷ []

@@ -1,4 +1,4 @@
--- Ladders worked out: the paper's own, a write with a damaged frame, and a read that fails. Proved in proofs/Ladders.antt, by computing each.
+-- Ladders worked out: the paper's own, a write with a damaged frame, a write with an ACK lost, a read with NAKs lost, and a read that fails. Proved in proofs/Ladders.antt, by computing each.
 use Prim.Native.Nat.{ℕ}
 use mathlib.Core.List.{List, [], _∷_}
 use mathlib.Core.Path.{_≡_}
@@ -8,8 +8,8 @@ use Rattle.ladder_text.specs.Text.{bytes}
 use Rattle.ladder_text.specs.Rows.{ladderText}
 use Rattle.ladder_text.specs.WorkedTexts.{example, exampleRows, row}
 use Rattle.ladder_text.specs.declared.types.Direction.the-variants.{Read, Write}
-use Rattle.ladder_text.specs.declared.types.Fate.the-variants.{Ok, Bad, Lost}
-use Rattle.ladder_text.specs.declared.types.Receipt.the-variants.{Stored, Nothing}
+use Rattle.ladder_text.specs.declared.types.Fate.the-variants.{Ok, Noack, Bad, Nonak, Lost}
+use Rattle.ladder_text.specs.declared.types.Receipt.the-variants.{Stored, Discarded, Nothing}
 use Rattle.ladder_text.specs.declared.types.Outcome.the-variants.{Delivered, Failed}
 use Rattle.ladder_text.specs.declared.types.Run.{Run}
 use Rattle.ladder_text.specs.declared.types.Row.{Row}
@@ -56,6 +56,38 @@ writeRows =
 
 abbrev pub WriteRuns : Type 0
 WriteRuns = Runs writeRun (0 ∷ 2 ∷ []) ten (replicate 10 0) writeRows (record { outcome = Delivered; number = 0; frames = 5; faults = 1; filled = 10 }) ten
+
+-- `write 10 4 3 1`, then `ok`, `ok`, `noack`: the last frame arrived, so all is filled, and what the timeout brings again is discarded
+abbrev pub noackRun : Run
+noackRun = record { direction = Write; count = 10; size = 4; window = 3; limit = 1 }
+
+abbrev pub noackRows : List Row
+noackRows =
+    row 1 0 4 0 Ok Stored ∷
+    row 2 4 4 0 Ok Stored ∷
+    row 3 8 2 0 Noack Stored ∷
+    row 4 0 4 1 Ok Discarded ∷
+    row 5 4 4 0 Ok Discarded ∷
+    row 6 8 2 0 Ok Discarded ∷ []
+
+abbrev pub NoackRuns : Type 0
+NoackRuns = Runs noackRun (0 ∷ 0 ∷ 1 ∷ []) ten (replicate 10 0) noackRows (record { outcome = Delivered; number = 0; frames = 6; faults = 1; filled = 10 }) ten
+
+-- `read 10 4 3 1`, then `nonak`, `ok`, `ok`, `nonak`: no damaged frame arrives, the others are discarded, and no NAK comes: 29 and not 28
+abbrev pub nonakRun : Run
+nonakRun = record { direction = Read; count = 10; size = 4; window = 3; limit = 1 }
+
+abbrev pub nonakRows : List Row
+nonakRows =
+    row 1 0 4 0 Nonak Nothing ∷
+    row 2 4 4 0 Ok Discarded ∷
+    row 3 8 2 0 Ok Discarded ∷
+    row 4 0 4 1 Nonak Nothing ∷
+    row 5 4 4 0 Ok Discarded ∷
+    row 6 8 2 0 Ok Discarded ∷ []
+
+abbrev pub NonakRuns : Type 0
+NonakRuns = Runs nonakRun (3 ∷ 0 ∷ 0 ∷ 3 ∷ []) ten (replicate 10 0) nonakRows (record { outcome = Failed; number = 29; frames = 6; faults = 2; filled = 0 }) (replicate 10 0)
 
 -- `read 10 4 1 0`, then `ok`, `lost`: with retries off the first timeout fails, 29
 abbrev pub failingRun : Run

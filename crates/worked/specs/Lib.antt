@@ -1,4 +1,6 @@
 pub mod Setting
+pub mod TransferLimits
+pub mod MadeUp
 pub mod Run
 pub mod Read
 pub mod Faults
@@ -7,7 +9,16 @@ pub mod Further
 pub mod Write
 pub mod Silent
 pub mod Crossing
+pub mod Offers
 pub mod Repeat
 pub mod Response
+pub mod Screened
+pub mod Both
+pub mod Limits
+pub mod Resumes
+pub mod Waiting
+pub mod AtRest
+pub mod XferRdyRetries
+pub mod ResponseRecord
 pub mod Rungs
 pub mod Ladders

@@ -1,27 +1,23 @@
--- Request K4 worked out: an initiator that goes silent, discarded frames that do not save the transfer, a stored repeat that does. Proved in proofs/Silent.antt.
+-- Request K4 worked out: an initiator that goes silent, discarded frames that do not save the transfer, a stored repeat that does, and sums in
+-- made-up records. Proved in proofs/Silent.antt.
 use Prim.Native.Nat.{ℕ}
 use mathlib.Core.List.{List, [], _∷_}
-use mathlib.Core.Bool.{true, false}
+use mathlib.Core.Bool.{Bool, true, false}
 use mathlib.Core.Path.{_≡_}
 use lib.ListN.{replicate}
-use Rattle.status.specs.Answer.{Word, Said}
+use Rattle.status.specs.Answer.{Word, Said, _saying_}
 use Rattle.status.specs.Result.{Result}
 use Rattle.transfer.specs.declared.Transfer.{Transfer}
 use Rattle.initiator.specs.WriteRecord as initiator
-use Rattle.initiator.specs.WriteTake.{writeArrivalOf}
 use Rattle.target.specs.Record as target
-use Rattle.target.specs.Transmit.{nextOf}
-use Rattle.target.specs.Confirmation.{ackOf}
 use Rattle.target.specs.declared.types.Target.{Target}
-use Rattle.link.specs.Ports.{Signal}
+use Rattle.link.specs.Ports.{lending, Signal}
 use Rattle.link.specs.World.{World, Report, Event, ask, arrives, frame-lost, confirmed, timeout, other, at-receiver, run}
-use Rattle.link.specs.Delivers.{fresh}
-use Rattle.link.specs.Claim.{xferRdySent}
 use Rattle.link.specs.Writing.{writePorts}
 use Rattle.link.specs.Calls.{TargetCall, targetCall}
 use Rattle.link.specs.ResponseTimeout.{after}
 use Rattle.worked.specs.Setting.{between, space}
-use Rattle.worked.specs.Write.{ready, dataFrame}
+use Rattle.worked.specs.Write.{ready, dataFrame, agreed}
 use Rattle.worked.specs.Run.{Worked, burst}
 
 -- a write of twelve bytes in one burst of three frames; window 3, retry limit 3; the target's Initiator Response Timeout is 100 milliseconds
@@ -99,8 +95,7 @@ Discarded = answersOf (target.startOf device) discardedCalls ≡ discardedAnswer
 -- ── a stored repeat ──
 -- the same fault over the link, with a retry
 unfoldable pub repeatStart : World writePorts
-repeatStart =
-    fresh writePorts (writeArrivalOf (initiator.startOf host) (xferRdySent (target.startOf device) ready 36) .left) (ackOf (nextOf (target.startOf device) ready .left) .left) twelve empty
+repeatStart = agreed (initiator.startOf host) (target.startOf device) twelve empty
 
 unfoldable pub repeatEvents : List (Event writePorts)
 repeatEvents =
@@ -120,3 +115,45 @@ repeatEvents =
 abbrev pub StoredRepeat : Type 1
 StoredRepeat =
     Worked (burst 0 12 3) repeatStart repeatEvents (Report.delivered 6) twelve 1 6 ((0, 0) ∷ (4, 0) ∷ (8, 0) ∷ (0, 1) ∷ (4, 0) ∷ (8, 0) ∷ [])
+
+-- ── the sum in a record that a caller made ──
+-- of the one burst: the XFER_RDY's state (1 unanswered, 3 had its ACK), the filled mark, the sum, ended
+abbrev pub summed : ℕ → ℕ → ℕ → Bool → Target
+summed state filled elapsed ended =
+    record {
+      receiver = record { transfer = device; base = 0; end = 12; expected = filled; filled = filled; waiting = false; ended = ended };
+      state = state;
+      tptt = 0;
+      retries = 0;
+      stored = false;
+      under = 0;
+      since = 1;
+      elapsed = elapsed;
+    }
+
+-- every call: a report of time, a frame, an XFER_RDY asked for, each confirmation, a nexus loss
+abbrev pub every : Calls
+every =
+    time 0 ∷ frameAt 0 ∷ (TargetCall.asking, ready) ∷
+    (TargetCall.signals Signal.ack, []) ∷ (TargetCall.signals Signal.nak, []) ∷ (TargetCall.signals Signal.timeout, []) ∷ (TargetCall.signals Signal.cut, []) ∷ (TargetCall.signals Signal.loss, []) ∷ []
+
+pub record Summed : Type 0 where
+  -- 1 "another count past its limit": a sum of 101; in and outside the span, and before 2 where the record has ended
+  pub past : answersOf (summed 3 0 101 false) every ≡ replicate 8 (Said.refused 1)
+  pub past-unanswered : answersOf (summed 1 0 101 false) every ≡ replicate 8 (Said.refused 1)
+  pub past-ended : answersOf (summed 3 0 101 true) every ≡ replicate 8 (Said.refused 1)
+  -- a sum of 100 is not past it: 2 in an ended record
+  pub ended : answersOf (summed 3 0 100 true) every ≡ replicate 8 (Said.refused 2)
+  -- "If it reaches the value": at 100 a report of 0 milliseconds fails; at 99 it does not
+  pub reached : answersOf (summed 3 0 100 false) (time 0 ∷ []) ≡ Said.failed 33 0 ∷ []
+  pub not-reached : answersOf (summed 3 0 99 false) (time 0 ∷ time 0 ∷ time 1 ∷ []) ≡ Said.word Word.taken ∷ Said.word Word.taken ∷ Said.failed 33 0 ∷ []
+  -- "on a report of time only": a frame is stored, and the sum starts from zero
+  pub stored : answersOf (summed 3 0 100 false) (frameAt 0 ∷ time 99 ∷ []) ≡ Said.stored ∷ Said.word Word.taken ∷ []
+  -- "Time reported outside that span changes nothing": until the ACK, and once filled
+  pub unanswered : targetCall (TargetCall.time 0) (summed 1 0 100 false) [] ≡ lending (summed 1 0 100 false saying Said.word Word.unchanged) []
+  pub filled : targetCall (TargetCall.time 0) (summed 3 12 100 false) [] ≡ lending (summed 3 12 100 false saying Said.word Word.unchanged) []
+  -- "The sum starts from zero at the ACK of an XFER_RDY": from 60
+  pub acknowledged : targetCall (TargetCall.signals Signal.ack) (summed 1 0 60 false) [] ≡ lending (summed 3 0 0 false saying Said.word Word.acknowledged) []
+  pub counts-anew :
+      answersOf (summed 1 0 60 false) ((TargetCall.signals Signal.ack, []) ∷ time 99 ∷ time 1 ∷ []) ≡
+      Said.word Word.acknowledged ∷ Said.word Word.taken ∷ Said.failed 33 0 ∷ []

@@ -63,13 +63,13 @@ dataFrame tptt offset fill part =
 abbrev pub stale : ℕ → List ℕ
 stale tptt = dataFrame tptt 5 0 (0x77 ∷ 0x77 ∷ 0x77 ∷ 0x77 ∷ [])
 
--- where a burst starts: the target y hands out its XFER_RDY, the initiator x takes those bytes, the target gets the ACK
-abbrev pub agreed : Writer → Target → List ℕ → World writePorts
-agreed x y received = fresh writePorts (writeArrivalOf x (xferRdySent y ready 36) .left) (ackOf (nextOf y ready .left) .left) ten received
+-- where a burst starts: the target y hands out its XFER_RDY, the initiator x takes those bytes, the target gets the ACK; the sent and the received data
+abbrev pub agreed : Writer → Target → List ℕ → List ℕ → World writePorts
+agreed x y sent received = fresh writePorts (writeArrivalOf x (xferRdySent y ready 36) .left) (ackOf (nextOf y ready .left) .left) sent received
 
 -- Burst 1, from set-up: frames at 0 and 4, no fault.
 unfoldable pub firstStart : World writePorts
-firstStart = agreed (initiator.startOf host) (target.startOf device) (replicate 10 0xff)
+firstStart = agreed (initiator.startOf host) (target.startOf device) ten (replicate 10 0xff)
 
 unfoldable pub firstEvents : List (Event writePorts)
 firstEvents = ask space ∷ ask space ∷ arrives ∷ arrives ∷ confirmed ∷ confirmed ∷ []
@@ -115,7 +115,7 @@ filledFirst = record { receiver = filled 0 5 5; state = 3; tptt = 0; retries = 0
 
 -- Burst 2, from there: frames at 5 and 9.
 unfoldable pub secondStart : World writePorts
-secondStart = agreed sentFirst filledFirst half
+secondStart = agreed sentFirst filledFirst ten half
 
 unfoldable pub secondTransfer : List (Event writePorts)
 secondTransfer =
@@ -210,7 +210,7 @@ abbrev pub unheard : Target
 unheard = record { receiver = filled 5 10 5; state = 2; tptt = 1; retries = 1; stored = true; under = 0; since = 1; elapsed = 0 }
 
 unfoldable pub resentStart : World writePorts
-resentStart = agreed sentFirst unheard half
+resentStart = agreed sentFirst unheard ten half
 
 unfoldable pub resentTransfer : List (Event writePorts)
 resentTransfer =
