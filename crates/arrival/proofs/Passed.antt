@@ -9,7 +9,7 @@ use lib.ListN.{length, take, drop, length-take, length-drop}
 use borrow.Author.Tests.{eq-eqb}
 use Rattle.status.specs.Pick.{pick}
 use Rattle.status.specs.Result.{Result}
-use Rattle.status.proofs.Opened.{differ}
+use Rattle.status.proofs.OpenedCall.{differ}
 use Rattle.transfer.specs.declared.Transfer.{Transfer}
 use Rattle.frame.specs.Format.{is_type, encode}
 use Rattle.frame.specs.Read.{decode, header_in, well_formed, iu_length, iu_of, parsed}

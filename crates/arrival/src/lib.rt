@@ -1,4 +1,6 @@
 // What every arriving frame is tested for, once for all roles: 5, 6, 7, 8.
+#![tactic(auto)]
+
 ghost use Rattle.std.specs.Prelude.{◌≡◌};
 ghost use Rattle.arrival.specs.Accept.{class_of, is_taken, accepted, screen_of, accept_of};
 

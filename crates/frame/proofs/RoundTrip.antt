@@ -13,7 +13,7 @@ use borrow.Author.Tests.{le-leb, eq-eqb, lt-ltb, ltb-true, leb-true}
 use Rattle.status.specs.Pick.{pick}
 use Rattle.status.specs.Result.{Result}
 use Rattle.status.proofs.Choose.{each, in_true}
-use Rattle.status.proofs.Opened.{differ}
+use Rattle.status.proofs.OpenedCall.{differ}
 use Rattle.frame.specs.Format.{is_type, field, flags_of, fill_of, header_bytes, data_bytes, encode}
 use Rattle.frame.specs.Write.{request, writable}
 use Rattle.frame.specs.Read.{fill_count, header_in, well_formed, iu_length, iu_of, parsed, decode}

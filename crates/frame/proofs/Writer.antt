@@ -10,7 +10,7 @@ use borrow.Author.Tests.{le-leb, lt-leb, leb-true}
 use Rattle.status.specs.Pick.{pick}
 use Rattle.status.specs.Result.{Result}
 use Rattle.status.proofs.Choose.{in_true, in_false, each}
-use Rattle.status.proofs.Opened.{differ}
+use Rattle.status.proofs.OpenedCall.{differ}
 use Rattle.frame.specs.Format.{fill_of, header_bytes, data_bytes, encode}
 use Rattle.frame.specs.Write.{request, writable, write_answer, placed}
 use Rattle.frame.specs.declared.types.Header.{Header}

@@ -1,4 +1,6 @@
 // The SSP frame ("The frame"): header, information unit (IU) and fill, written and read.
+#![tactic(auto)]
+
 mod byte;
 mod decode;
 mod encode;

@@ -8,7 +8,7 @@ use Rattle.status.specs.Entry.{entry_of}
 use Rattle.status.specs.Pick.{pick, ◌with◌}
 use Rattle.status.specs.Answer.{Said, Left, ◌saying◌, stores}
 use Rattle.status.specs.Result.{Result}
-use Rattle.status.proofs.Opened.{open_entry, ended_entry}
+use Rattle.status.proofs.OpenedCall.{open_entry, ended_entry}
 use Rattle.status.proofs.Leaves.{Leaves, leaves_pick, leaves_unless, unless_gives}
 use Rattle.frame.specs.Format.{DATA, RESPONSE, encode}
 use Rattle.frame.specs.Write.{writable}

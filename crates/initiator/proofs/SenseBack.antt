@@ -12,7 +12,7 @@ use Rattle.status.specs.Pick.{pick}
 use Rattle.status.specs.Answer.{Said, Left}
 use Rattle.status.specs.Result.{Result}
 use Rattle.status.specs.declared.answer.Opened.{Opened}
-use Rattle.status.proofs.Opened.{open_entry}
+use Rattle.status.proofs.OpenedCall.{open_entry}
 use Rattle.status.proofs.Leaves.{picked, unless_gives}
 use Rattle.frame.specs.Format.{RESPONSE, encode}
 use Rattle.frame.specs.Read.{header_in, iu_length, iu_of}

@@ -8,7 +8,7 @@ use lib.ListN.{length}
 use Rattle.status.specs.Entry.{entry_of}
 use Rattle.status.specs.Pick.{pick}
 use Rattle.status.specs.Answer.{Word, Said, Left, ◌saying◌, refuses}
-use Rattle.status.proofs.Opened.{ended_entry}
+use Rattle.status.proofs.OpenedCall.{ended_entry}
 use Rattle.status.proofs.Leaves.{AfterWord, After, Leaves, leaves_pick, leaves_unless, picked, unless_gives}
 use Rattle.frame.specs.declared.types.Header.{Header}
 use Rattle.frame.specs.declared.types.XferRdy.{XferRdy}

@@ -9,7 +9,7 @@ use borrow.Author.Tests.{eqb-false, ltb-false, eq-eqb, ne_eqb}
 use Rattle.status.specs.Pick.{pick}
 use Rattle.status.specs.declared.words.Failure.TheVariants.{XferRdyIncorrectWriteDataLength, XferRdyNotExpected, XferRdyRequestedOffsetError}
 use Rattle.status.proofs.Choose.{in_true, in_false}
-use Rattle.status.proofs.Opened.{differ}
+use Rattle.status.proofs.OpenedCall.{differ}
 use Rattle.transfer.specs.Limits.{limits_hold}
 use Rattle.transfer.proofs.Bounds.{bounds}
 use Rattle.frame.specs.declared.types.XferRdy.{XferRdy}

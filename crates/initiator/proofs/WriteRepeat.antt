@@ -14,7 +14,7 @@ use Rattle.status.specs.Answer.{Taking, Said, Left, ◌saying◌, refuses, unles
 use Rattle.status.specs.Result.{Result}
 use Rattle.status.specs.declared.words.Failure.TheVariants.{XferRdyIncorrectWriteDataLength, XferRdyNotExpected, XferRdyRequestedOffsetError}
 use Rattle.status.proofs.Choose.{and_true}
-use Rattle.status.proofs.Opened.{differ}
+use Rattle.status.proofs.OpenedCall.{differ}
 use Rattle.status.proofs.Leaves.{picked}
 use Rattle.frame.specs.Read.{header_in, iu_of}
 use Rattle.frame.specs.XferRdy.{xfer_rdy_of}

@@ -11,7 +11,7 @@ use Rattle.status.specs.Entry.{entry_of, confirmable_of}
 use Rattle.status.specs.Pick.{pick}
 use Rattle.status.specs.Answer.{Word, Taking, Said, Left, ◌saying◌, refuses, unless}
 use Rattle.status.specs.Result.{Result}
-use Rattle.status.proofs.Opened.{differ, open_entry, two_entry, two_confirmable}
+use Rattle.status.proofs.OpenedCall.{differ, open_entry, two_entry, two_confirmable}
 use Rattle.status.proofs.Leaves.{picked, After, refused_same}
 use Rattle.frame.specs.Format.{XFER-RDY, encode}
 use Rattle.frame.specs.Write.{writable}

@@ -1,4 +1,6 @@
 // The initiator port: what arrives at the host, and what it sends in a write command. Every function here is an entry point; `sense_data` takes no record.
+#![tactic(auto)]
+
 mod read;
 mod sense;
 mod types;

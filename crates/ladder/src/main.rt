@@ -1,4 +1,6 @@
 // The ladder program: standard input to standard output. All that matters is in crate `ladder_print`; what was read and written no contract can say.
+#![tactic(auto)]
+
 ghost use Rattle.std.specs.Prelude.{◌≡◌, length};
 
 use ladder_print::Printed;

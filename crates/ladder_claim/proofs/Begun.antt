@@ -11,7 +11,7 @@ use borrow.Author.Tests.{leb-true, ltb-false, eqb-true, le-leb, lt-ltb, le-ltb, 
 use Rattle.status.specs.Pick.{pick}
 use Rattle.status.specs.Answer.{Word, Taking, Said, Left, ◌saying◌}
 use Rattle.status.specs.Result.{Result, granted}
-use Rattle.status.proofs.Opened.{open_entry, open_confirmable}
+use Rattle.status.proofs.OpenedCall.{open_entry, open_confirmable}
 use Rattle.transfer.specs.Limits.{past, limits, limits_hold}
 use Rattle.transfer.specs.declared.Transfer.{Transfer}
 use Rattle.frame.specs.Format.{XFER-RDY, encode}

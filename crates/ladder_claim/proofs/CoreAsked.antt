@@ -9,7 +9,7 @@ use lib.ListN.{length}
 use borrow.Author.Tests.{leb-true, le-leb, eqb-true, eqb-false}
 use Rattle.status.specs.Pick.{pick}
 use Rattle.status.specs.Answer.{Word, Said, Left, ◌saying◌}
-use Rattle.status.proofs.Opened.{open_entry}
+use Rattle.status.proofs.OpenedCall.{open_entry}
 use Rattle.frame.specs.Write.{hands as due-frame}
 use Rattle.frame.proofs.Writer.{encode_length}
 use Rattle.sender_steps.specs.Record.{lent_of}

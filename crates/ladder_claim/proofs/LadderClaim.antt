@@ -9,7 +9,7 @@ use native.Mathlib.Nat.{mul-le-mul_left}
 use native.Mathlib.Omega.{arith}
 use lib.Seq.{ext_get_or}
 use lib.ListN.{length, get_or, length-map, get_or-eq_default}
-use Rattle.status.proofs.Opened.{differ}
+use Rattle.status.proofs.OpenedCall.{differ}
 use Rattle.frame.specs.Read.{decode}
 use Rattle.link.specs.Ports.{Ports}
 use Rattle.link.specs.World.{World}

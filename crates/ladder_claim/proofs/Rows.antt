@@ -7,7 +7,7 @@ use lib.Dec.{eqb}
 use lib.ListN.{take}
 use Rattle.status.specs.Pick.{pick}
 use Rattle.status.specs.Answer.{Said, view, number, stores}
-use Rattle.status.proofs.Opened.{differ}
+use Rattle.status.proofs.OpenedCall.{differ}
 use Rattle.link.specs.Ports.{Called}
 use Rattle.ladder_text.specs.declared.types.Fate.{Fate}
 use Rattle.ladder_text.specs.declared.types.Fate.TheVariants.{Ok, Noack, Bad, Nonak, Lost}

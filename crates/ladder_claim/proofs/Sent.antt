@@ -8,7 +8,7 @@ use lib.ListN.{take}
 use borrow.Author.Tests.{ne_eqb}
 use Rattle.status.specs.Pick.{pick}
 use Rattle.status.specs.Answer.{Said}
-use Rattle.status.proofs.Opened.{differ}
+use Rattle.status.proofs.OpenedCall.{differ}
 use Rattle.frame.specs.Read.{decode}
 use Rattle.link.specs.Ports.{Called, Ports}
 use Rattle.link.specs.Tally.{Confirmation, Tally, handed_out, frame_lost_of, frame_damaged}

@@ -10,7 +10,7 @@ use borrow.Author.Tests.{ne_eqb}
 use Rattle.status.specs.Entry.{entry_of}
 use Rattle.status.specs.Pick.{pick, ◌with◌}
 use Rattle.status.specs.Answer.{Word, Said, Left, ◌saying◌}
-use Rattle.status.proofs.Opened.{open_entry}
+use Rattle.status.proofs.OpenedCall.{open_entry}
 use Rattle.sender_steps.specs.Record.{lent_of}
 use Rattle.sender_steps.specs.Transmit.{waits_of}
 use Rattle.sender.specs.Transmit.{next_of}

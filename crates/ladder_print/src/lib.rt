@@ -1,4 +1,6 @@
 // A run file's ladder as text: functions from the whole input to the whole output.
+#![tactic(auto)]
+
 mod climb;
 mod data;
 mod put;

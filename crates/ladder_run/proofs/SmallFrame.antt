@@ -15,7 +15,7 @@ use Rattle.status.specs.declared.entry.Entry.{Entry}
 use Rattle.status.specs.declared.entry.Entry.TheVariants.{Open, Closed}
 use Rattle.status.proofs.Choose.{each}
 use Rattle.status.proofs.Leaves.{picked, unless_gives}
-use Rattle.status.proofs.Opened.{opened}
+use Rattle.status.proofs.OpenedCall.{opened}
 use Rattle.frame.specs.Format.{is_type, header_bytes, encode}
 use Rattle.frame.specs.Read.{header_in, form, well_formed, parsed, decode}
 use Rattle.frame.specs.Write.{hands, handing}

@@ -1,4 +1,6 @@
 // The run of a ladder ("The ladder program"): two ports, the frames between them and their fates; its rows and its verdict one by one, as values.
+#![tactic(auto)]
+
 mod ends;
 mod fates;
 mod line;

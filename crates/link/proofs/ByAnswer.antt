@@ -7,7 +7,7 @@ use lib.ListN.{length}
 use Rattle.status.specs.Answer.{Said, view, Left, ◌saying◌, refuses}
 use Rattle.status.specs.Report.{Report}
 use Rattle.status.proofs.Leaves.{Leaves, picked, refusal_same, failure_ends}
-use Rattle.status.proofs.Opened.{differ}
+use Rattle.status.proofs.OpenedCall.{differ}
 use Rattle.frame.specs.Read.{header_in, iu_of}
 use Rattle.frame.specs.Write.{handing}
 use Rattle.sender_steps.specs.Transmit.{frame_of}

@@ -13,7 +13,7 @@ use Rattle.sender_steps.proofs.Held.{held}
 use Rattle.sender.proofs.Views.{Asked, asked}
 use Rattle.receiver_steps.proofs.Held as receiver
 use Rattle.status.specs.Answer.{Word, Said, Left}
-use Rattle.status.proofs.Opened.{differ}
+use Rattle.status.proofs.OpenedCall.{differ}
 use Rattle.link.specs.Ports.{Signal, Ports}
 use Rattle.link.specs.World.{World, Report, Event, step, run, Allows, Allowed}
 use Rattle.link.specs.Delivers.{BurstParameters, Concluded, Delivered, LinkFailed, Delivers}

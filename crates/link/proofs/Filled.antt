@@ -8,7 +8,7 @@ use native.Mathlib.Decide.{ℕ_discrete}
 use native.Mathlib.Omega.{arith}
 use lib.ListN.{length}
 use Rattle.status.specs.Answer.{Said, Left}
-use Rattle.status.proofs.Opened.{differ}
+use Rattle.status.proofs.OpenedCall.{differ}
 use Rattle.sender_steps.specs.Confirmation.{lowered_of}
 use Rattle.sender.specs.Confirmation.{timeout_of}
 use Rattle.sender_steps.specs.declared.types.Sender.{Sender}

@@ -7,7 +7,7 @@ use mathlib.Core.Path.{◌≡◌, refl, sym, ap, subst, ◌∙◌}
 use lib.ListN.{length, get_or}
 use Rattle.status.specs.Pick.{◌with◌}
 use Rattle.status.specs.Answer.{Said, view, Left, ◌saying◌}
-use Rattle.status.proofs.Opened.{differ, open_entry}
+use Rattle.status.proofs.OpenedCall.{differ, open_entry}
 use Rattle.sender_steps.specs.Record.{holds_of}
 use Rattle.sender_steps.specs.Confirmation.{ended_of, failed_of}
 use Rattle.sender.specs.Confirmation.{loss_of}

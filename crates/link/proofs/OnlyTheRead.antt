@@ -11,7 +11,7 @@ use Rattle.status.specs.Answer.{Left, unless}
 use Rattle.status.specs.Result.{Result}
 use Rattle.status.specs.declared.entry.Entry.{Entry}
 use Rattle.status.specs.declared.entry.Entry.TheVariants.{Open, Closed}
-use Rattle.status.proofs.Opened.{opened}
+use Rattle.status.proofs.OpenedCall.{opened}
 use Rattle.status.proofs.Leaves.{unless_gives}
 use Rattle.frame.specs.Read.{header_in, iu_length, iu_of}
 use Rattle.frame.specs.Write.{placed}

@@ -10,7 +10,7 @@ use lib.ListN.{length}
 use borrow.Author.Tests.{lt-leb, ne_eqb}
 use Rattle.status.specs.Pick.{pick}
 use Rattle.status.specs.Answer.{Said, view, Left, ◌saying◌}
-use Rattle.status.proofs.Opened.{open_entry}
+use Rattle.status.proofs.OpenedCall.{open_entry}
 use Rattle.frame.specs.Format.{fill_of}
 use Rattle.frame.specs.Write.{hands}
 use Rattle.frame.proofs.Writer.{encode_length}

@@ -9,7 +9,7 @@ use lib.ListN.{length}
 use Rattle.status.specs.Entry.{entry_of}
 use Rattle.status.specs.Answer.{Said, Left, ◌saying◌, unless, fails}
 use Rattle.status.proofs.Leaves.{picked, unless_gives}
-use Rattle.status.proofs.Opened.{differ}
+use Rattle.status.proofs.OpenedCall.{differ}
 use Rattle.frame.specs.Write.{hands}
 use Rattle.transfer.specs.declared.Transfer.{Transfer}
 use Rattle.receiver_steps.specs.Record.{lent_of}

@@ -10,7 +10,7 @@ use borrow.Author.Tests.{eq-eqb, ne_eqb}
 use Rattle.status.specs.Pick.{pick, ◌with◌}
 use Rattle.status.specs.Answer.{Word, Said, Left, ◌saying◌, stores}
 use Rattle.status.specs.Result.{Result}
-use Rattle.status.proofs.Opened.{open_entry}
+use Rattle.status.proofs.OpenedCall.{open_entry}
 use Rattle.transfer.specs.declared.Transfer.{Transfer}
 use Rattle.frame.specs.Read.{header_in, iu_of}
 use Rattle.arrival.specs.Accept.{accept_of}

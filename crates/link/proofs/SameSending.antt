@@ -10,7 +10,7 @@ use borrow.Author.Tests.{ne_eqb}
 use Rattle.status.specs.Pick.{pick, ◌with◌}
 use Rattle.status.specs.Answer.{Word, Said, Left, ◌saying◌, refuses}
 use Rattle.status.proofs.Leaves.{refused_same}
-use Rattle.status.proofs.Opened.{differ, open_entry}
+use Rattle.status.proofs.OpenedCall.{differ, open_entry}
 use Rattle.frame.specs.Write.{handing}
 use Rattle.sender_steps.specs.Fields.{unanswered≔}
 use Rattle.sender_steps.specs.Transmit.{frame_of}

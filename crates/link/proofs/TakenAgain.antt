@@ -14,7 +14,7 @@ use Rattle.status.specs.Answer.{Left, unless}
 use Rattle.status.specs.Result.{Result}
 use Rattle.status.specs.declared.entry.Entry.{Entry}
 use Rattle.status.specs.declared.entry.Entry.TheVariants.{Open, Closed}
-use Rattle.status.proofs.Opened.{differ}
+use Rattle.status.proofs.OpenedCall.{differ}
 use Rattle.transfer.specs.declared.Transfer.{Transfer}
 use Rattle.frame.specs.Read.{fill_count, header_in, well_formed, iu_length, iu_of}
 use Rattle.frame.specs.XferRdy.{xfer_rdy_of}

@@ -9,7 +9,7 @@ use lib.ListN.{length, get_or}
 use Rattle.status.specs.Pick.{pick}
 use Rattle.status.specs.Answer.{Word, Said, Left, ◌saying◌, unless}
 use Rattle.status.specs.Entry.{entry_of}
-use Rattle.status.proofs.Opened.{differ}
+use Rattle.status.proofs.OpenedCall.{differ}
 use Rattle.frame.specs.Format.{RESPONSE, flags_of}
 use Rattle.frame.specs.Read.{header_in, iu_of}
 use Rattle.frame.proofs.Alike.{Alike, field_same, type_same, dest_same, source_same, tag_same, offset_same, length_same, iu_same, form_same}

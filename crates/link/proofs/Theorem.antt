@@ -9,7 +9,7 @@ use native.Mathlib.Omega.{arith}
 use lib.ListN.{length}
 use Rattle.status.specs.Pick.{pick, all}
 use Rattle.status.specs.Result.{Result, granted}
-use Rattle.status.proofs.Opened.{differ}
+use Rattle.status.proofs.OpenedCall.{differ}
 use Rattle.status.proofs.Choose.{each}
 use Rattle.transfer.specs.Limits.{past, limits_hold}
 use Rattle.transfer.specs.declared.Transfer.{Transfer}

@@ -8,7 +8,7 @@ use Rattle.status.specs.Entry.{entry_of}
 use Rattle.status.specs.Answer.{unless}
 use Rattle.status.specs.declared.entry.Entry.{Entry}
 use Rattle.status.specs.declared.entry.Entry.TheVariants.{Open, Closed}
-use Rattle.status.proofs.Opened.{opened}
+use Rattle.status.proofs.OpenedCall.{opened}
 use Rattle.receiver_steps.specs.Record.{lent_of}
 use Rattle.receiver_steps.specs.DataFrame.{disposition_of, taken_of, storing}
 use Rattle.receiver_steps.specs.declared.types.Receiver.{Receiver}

@@ -7,7 +7,7 @@ use native.Mathlib.Omega.{arith}
 use borrow.Author.Tests.{eqb-true}
 use Rattle.status.specs.Pick.{pick}
 use Rattle.status.specs.Answer.{Word, Said, Left, ◌saying◌, stores}
-use Rattle.status.proofs.Opened.{differ}
+use Rattle.status.proofs.OpenedCall.{differ}
 use Rattle.status.proofs.Choose.{in_true, in_false, choose}
 use Rattle.receiver_steps.specs.DataFrame.{stored_by}
 use Rattle.receiver_steps.specs.declared.types.Receiver.{Receiver}

@@ -8,7 +8,7 @@ use Rattle.status.specs.Entry.{entry_of}
 use Rattle.status.specs.Pick.{pick}
 use Rattle.status.specs.Answer.{Word, Said, Left, ◌saying◌}
 use Rattle.status.proofs.Choose.{in_true}
-use Rattle.status.proofs.Opened.{open_entry, ended_entry}
+use Rattle.status.proofs.OpenedCall.{open_entry, ended_entry}
 use Rattle.status.proofs.Leaves.{Leaves, leaves_unless, picked, After}
 use Rattle.receiver_steps.specs.Record.{holds_of, failed_of, lent_of}
 use Rattle.receiver_steps.proofs.Ended.{failed_ended}

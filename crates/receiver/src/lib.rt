@@ -1,4 +1,6 @@
 // The receiving port: one DATA frame against a burst from base to end. Every function here is an entry point.
+#![tactic(auto)]
+
 mod data_frame;
 mod record;
 mod types;

@@ -13,7 +13,7 @@ use Rattle.receiver_steps.specs.DataFrame.{misplaced as misplacedOf, out_of_step
 use Rattle.receiver_steps.specs.declared.types.Receiver.{Receiver}
 use Rattle.receiver_steps.specs.declared.types.DataDisposition.{DataDisposition}
 use Rattle.receiver_steps.specs.declared.types.DataDisposition.TheVariants.{Discard, Skip, Fail, Store}
-use Rattle.status.proofs.Opened.{differ}
+use Rattle.status.proofs.OpenedCall.{differ}
 use Rattle.receiver_steps.proofs.Held.{lent}
 
 -- number 20

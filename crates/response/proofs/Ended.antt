@@ -7,7 +7,7 @@ use lib.ListN.{length}
 use Rattle.frame.specs.Write.{hands}
 use Rattle.status.specs.Entry.{entry_of}
 use Rattle.status.specs.Answer.{Word, Said, Left, ◌saying◌}
-use Rattle.status.proofs.Opened.{differ, ended_entry, ended_confirmable}
+use Rattle.status.proofs.OpenedCall.{differ, ended_entry, ended_confirmable}
 use Rattle.status.proofs.Leaves.{Leaves, leaves_pick, leaves_unless, unless_gives}
 use Rattle.response.specs.Record.{holds_of}
 use Rattle.response.specs.Transmit.{lent_of, hands_of, next_of}

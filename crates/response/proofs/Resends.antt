@@ -14,7 +14,7 @@ use Rattle.status.specs.Answer.{Word, Said, ◌saying◌, unless}
 use Rattle.status.specs.declared.entry.Entry.{Entry}
 use Rattle.status.specs.declared.entry.Entry.TheVariants.{Open as open-entry-is, Closed}
 use Rattle.status.specs.declared.words.Refusal.TheVariants.{AnswerWithoutFrame}
-use Rattle.status.proofs.Opened.{open_entry, open_confirmable}
+use Rattle.status.proofs.OpenedCall.{open_entry, open_confirmable}
 use Rattle.frame.specs.Format.{encode}
 use Rattle.frame.specs.Write.{hands}
 use Rattle.response.specs.Fields.{unanswered≔}

@@ -1,4 +1,6 @@
 // RESPONSE at the target: a record of its own, resent until its ACK. Every function here is an entry point.
+#![tactic(auto)]
+
 mod confirmation;
 mod record;
 mod transmit;

@@ -8,7 +8,7 @@ use Rattle.frame.specs.Write.{hands}
 use Rattle.status.specs.Pick.{pick}
 use Rattle.status.specs.Entry.{entry_of, confirmable_of}
 use Rattle.status.specs.Answer.{Said, Left, ◌saying◌}
-use Rattle.status.proofs.Opened.{differ, ended_entry, ended_confirmable}
+use Rattle.status.proofs.OpenedCall.{differ, ended_entry, ended_confirmable}
 use Rattle.status.proofs.Leaves.{Leaves, leaves_pick, leaves_unless, unless_gives}
 use Rattle.sender_steps.specs.Record.{holds_of, lent_of}
 use Rattle.sender_steps.proofs.Ended.{failed_ended}

@@ -12,7 +12,7 @@ use Rattle.status.specs.Answer.{Word, Said, Left, ◌saying◌, refuses, fails, 
 use Rattle.status.specs.declared.entry.Entry.{Entry}
 use Rattle.status.specs.declared.entry.Entry.TheVariants.{Open, Closed}
 use Rattle.status.proofs.Leaves.{picked, unless_gives}
-use Rattle.status.proofs.Opened.{differ}
+use Rattle.status.proofs.OpenedCall.{differ}
 use Rattle.frame.specs.Write.{hands}
 use Rattle.sender_steps.specs.Record.{holds_of, lent_of}
 use Rattle.sender_steps.specs.Transmit.{waits_of, frame_of, sent_of}

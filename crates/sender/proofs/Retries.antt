@@ -12,7 +12,7 @@ use Rattle.status.specs.Pick.{pick, ◌with◌}
 use Rattle.status.specs.Entry.{entry_of}
 use Rattle.status.specs.Answer.{Word, Said, Left, ◌saying◌}
 use Rattle.status.specs.declared.entry.Entry.TheVariants.{Open as open-entry-is}
-use Rattle.status.proofs.Opened.{differ, open_entry}
+use Rattle.status.proofs.OpenedCall.{differ, open_entry}
 use Rattle.frame.specs.Write.{hands}
 use Rattle.sender_steps.specs.Fields.{balance≔, unanswered≔, nak≔, retries≔, ended≔}
 use Rattle.sender_steps.specs.Record.{lent_of}

@@ -8,7 +8,7 @@ use lib.ListN.{length}
 use borrow.Author.Tests.{leb-true, ltb-true, le-leb, lt-ltb}
 use Rattle.status.specs.Pick.{pick}
 use Rattle.status.proofs.Choose.{each}
-use Rattle.status.proofs.Opened.{open_entry}
+use Rattle.status.proofs.OpenedCall.{open_entry}
 use Rattle.frame.specs.Write.{writable}
 use Rattle.frame.proofs.Hands.{hands_answered}
 use Rattle.sender_steps.specs.Record.{lent_of}

@@ -14,7 +14,7 @@ use Rattle.status.specs.Entry.{entry_of, confirmable_of}
 use Rattle.status.specs.Answer.{Word, Said, Left, ◌saying◌}
 use Rattle.status.specs.declared.entry.Entry.TheVariants.{Open, Closed}
 use Rattle.status.specs.declared.words.Refusal.TheVariants.{AnswerWithoutFrame}
-use Rattle.status.proofs.Opened.{open_entry, open_confirmable, confirmed}
+use Rattle.status.proofs.OpenedCall.{open_entry, open_confirmable, confirmed}
 use Rattle.sender_steps.specs.Record.{holds_of, lent_of}
 use Rattle.sender_steps.specs.Transmit.{waits_of, frame_of, sent_of}
 use Rattle.sender.specs.Transmit.{hands_of, next_of}

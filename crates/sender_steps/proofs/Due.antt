@@ -8,7 +8,7 @@ use lib.Dec.{leb, ltb, eqb}
 use lib.ListN.{length, take, drop, length-take, length-drop}
 use borrow.Author.Tests.{le-leb, lt-ltb, leb-false, eqb-false}
 use Rattle.status.specs.Pick.{pick}
-use Rattle.status.proofs.Opened.{differ}
+use Rattle.status.proofs.OpenedCall.{differ}
 use Rattle.frame.specs.Write.{writable}
 use Rattle.sender_steps.specs.Record.{holds_of}
 use Rattle.sender_steps.specs.Transmit.{waits_of, lesser, data_header, part_of}

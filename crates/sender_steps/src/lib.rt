@@ -1,4 +1,6 @@
 // The sending port's record, the tests of number 1, and its steps: what an event does once its tests are passed. No entry points: those are in crate sender.
+#![tactic(auto)]
+
 mod confirmation;
 mod record;
 mod transmit;

@@ -6,7 +6,7 @@ use mathlib.Core.Path.{◌≡◌, refl, sym, ap, subst, ◌∙◌}
 use lib.ListN.{length}
 use Rattle.status.specs.Answer.{Word, Said, Left, ◌saying◌}
 use Rattle.status.proofs.Choose.{in_true, in_false}
-use Rattle.status.proofs.Opened.{open_entry}
+use Rattle.status.proofs.OpenedCall.{open_entry}
 use Rattle.frame.specs.Write.{over, handing, hands}
 use Rattle.sender_steps.specs.Transmit.{frame_of, sent_of}
 use Rattle.sender_steps.specs.declared.types.Sender.{Sender}

@@ -12,7 +12,7 @@ use Rattle.status.specs.Pick.{pick, ◌with◌}
 use Rattle.status.specs.Answer.{Word, Said, Left, ◌saying◌, stores}
 use Rattle.status.specs.Result.{Result}
 use Rattle.status.proofs.Choose.{in_true, in_false}
-use Rattle.status.proofs.Opened.{open_entry}
+use Rattle.status.proofs.OpenedCall.{open_entry}
 use Rattle.transfer.specs.declared.Transfer.{Transfer}
 use Rattle.frame.specs.Format.{DATA, field}
 use Rattle.frame.specs.Read.{header_in, iu_of, iu_length, decode, parsed}

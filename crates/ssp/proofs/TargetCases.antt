@@ -11,7 +11,7 @@ use Rattle.status.specs.Pick.{pick, all, ◌with◌}
 use Rattle.status.specs.Answer.{Word, Said, Left, ◌saying◌, stores}
 use Rattle.status.specs.Result.{Result}
 use Rattle.status.proofs.Choose.{in_true, in_false, each}
-use Rattle.status.proofs.Opened.{open_entry}
+use Rattle.status.proofs.OpenedCall.{open_entry}
 use Rattle.frame.specs.Format.{DATA, field}
 use Rattle.frame.specs.Read.{header_in, iu_of}
 use Rattle.frame.specs.PlainData.{PlainData, plain_header, transfer_tag}

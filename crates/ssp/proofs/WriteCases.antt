@@ -12,7 +12,7 @@ use Rattle.status.specs.Entry.{confirmable_of}
 use Rattle.status.specs.Answer.{Word, Said, Left, ◌saying◌}
 use Rattle.status.specs.declared.entry.Entry.TheVariants.{Open}
 use Rattle.status.proofs.Choose.{in_true, in_false, each}
-use Rattle.status.proofs.Opened.{open_entry, open_confirmable}
+use Rattle.status.proofs.OpenedCall.{open_entry, open_confirmable}
 use Rattle.frame.specs.Write.{over, handing}
 use Rattle.sender_steps.specs.Record as sender
 use Rattle.sender_steps.specs.Confirmation.{lowered_of}

@@ -1,4 +1,4 @@
 pub mod Choose
-pub mod Opened
+pub mod OpenedCall
 pub mod Leaves
 pub mod Wildcard

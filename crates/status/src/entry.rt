@@ -12,6 +12,7 @@ pub enum Entry {
 }
 
 // 1, then 2. `ok`: number 1 does not apply.
+#[tactic(auto, unfolding(crate::specs::Entry::entry_of, crate::specs::Pick::pick))]
 pub fn admit(ok: bool, ended: bool) -> Entry
     ensures { result ≡ entry_of ok ended }
 {
@@ -25,6 +26,7 @@ pub fn admit(ok: bool, ended: bool) -> Entry
 }
 
 // 1, 2, then 4. `some`: a frame is unanswered.
+#[tactic(auto, unfolding(crate::specs::Entry::confirmable_of, crate::specs::Entry::entry_of, crate::specs::Pick::pick))]
 pub fn confirmable(ok: bool, ended: bool, some: bool) -> Entry
     ensures { result ≡ confirmable_of ok ended some }
 {

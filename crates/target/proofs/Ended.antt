@@ -9,7 +9,7 @@ use Rattle.status.specs.Entry.{entry_of}
 use Rattle.status.specs.Pick.{pick}
 use Rattle.status.specs.Answer.{Said, Left, ◌saying◌}
 use Rattle.status.specs.Result.{Result}
-use Rattle.status.proofs.Opened.{ended_entry, ended_confirmable}
+use Rattle.status.proofs.OpenedCall.{ended_entry, ended_confirmable}
 use Rattle.status.proofs.Leaves.{Leaves, picked, leaves_pick, leaves_unless, unless_gives}
 use Rattle.arrival.specs.Accept.{accept_of}
 use Rattle.arrival.specs.declared.Role.TheVariants.{ReadTarget}

@@ -7,7 +7,7 @@ use lib.Dec.{ltb, eqb}
 use lib.ListN.{length}
 use borrow.Author.Tests.{eqb-true, eqb-false, ltb-true, lt-ltb, eq-eqb, ne_eqb}
 use Rattle.status.specs.Pick.{pick}
-use Rattle.status.proofs.Opened.{differ}
+use Rattle.status.proofs.OpenedCall.{differ}
 use Rattle.status.proofs.Leaves.{picked}
 use Rattle.frame.specs.Write.{writable}
 use Rattle.frame.specs.XferRdy.{xfer_rdy_bytes}

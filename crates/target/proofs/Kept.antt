@@ -14,7 +14,7 @@ use Rattle.status.specs.Answer.{Word, Said, Left, ◌saying◌, stores, unless}
 use Rattle.status.specs.declared.entry.Entry.{Entry}
 use Rattle.status.specs.declared.entry.Entry.TheVariants.{Open, Closed}
 use Rattle.status.proofs.Leaves.{picked, unless_gives}
-use Rattle.status.proofs.Opened.{opened}
+use Rattle.status.proofs.OpenedCall.{opened}
 use Rattle.status.specs.Result.{Result}
 use Rattle.frame.specs.Format.{RESPONSE}
 use Rattle.frame.specs.Read.{header_in}

@@ -12,7 +12,7 @@ use Rattle.status.specs.Pick.{pick, ◌with◌}
 use Rattle.status.specs.Answer.{Word, Said, Left, ◌saying◌, unless}
 use Rattle.status.specs.declared.entry.Entry.{Entry}
 use Rattle.status.specs.declared.entry.Entry.TheVariants.{Open, Closed}
-use Rattle.status.proofs.Opened.{opened}
+use Rattle.status.proofs.OpenedCall.{opened}
 use Rattle.frame.specs.Write.{hands}
 use Rattle.receiver_steps.specs.Fields.{waiting≔}
 use Rattle.receiver_steps.specs.DataFrame.{stored_of}

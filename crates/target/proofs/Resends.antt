@@ -14,7 +14,7 @@ use Rattle.status.specs.Answer.{Word, Said, ◌saying◌}
 use Rattle.status.specs.declared.entry.Entry.TheVariants.{Open as open-entry-is, Closed}
 use Rattle.status.specs.declared.words.Refusal.TheVariants.{AnswerWithoutFrame}
 use Rattle.status.proofs.Choose.{and_true}
-use Rattle.status.proofs.Opened.{open_entry, open_confirmable}
+use Rattle.status.proofs.OpenedCall.{open_entry, open_confirmable}
 use Rattle.frame.specs.Write.{hands}
 use Rattle.receiver_steps.specs.Fields.{ended≔}
 use Rattle.target.specs.Fields.{receiver≔, state≔, tptt≔, since≔}

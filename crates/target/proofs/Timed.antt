@@ -12,7 +12,7 @@ use Rattle.status.specs.Answer.{Word, Said, Left, ◌saying◌, unless, fails}
 use Rattle.status.specs.declared.entry.Entry.{Entry}
 use Rattle.status.specs.declared.entry.Entry.TheVariants.{Open, Closed}
 use Rattle.status.proofs.Choose.{and_true}
-use Rattle.status.proofs.Opened.{differ, opened, open_entry}
+use Rattle.status.proofs.OpenedCall.{differ, opened, open_entry}
 use Rattle.target.specs.Fields.{elapsed≔}
 use Rattle.target.specs.Record.{READY, holds_of, failed_of}
 use Rattle.target.specs.Time.{runs_of, elapsed_of, time_of}

@@ -13,7 +13,7 @@ use Rattle.status.specs.Answer.{Word, Said, Left, ◌saying◌, stores, unless}
 use Rattle.status.specs.Result.{Result}
 use Rattle.status.specs.declared.entry.Entry.{Entry}
 use Rattle.status.specs.declared.entry.Entry.TheVariants.{Open, Closed}
-use Rattle.status.proofs.Opened.{differ, opened, open_entry, confirmed}
+use Rattle.status.proofs.OpenedCall.{differ, opened, open_entry, confirmed}
 use Rattle.status.proofs.Leaves.{picked}
 use Rattle.frame.specs.Format.{DATA, encode}
 use Rattle.frame.specs.Read.{header_in, iu_of}

@@ -8,7 +8,7 @@ use Rattle.status.specs.Answer.{Left}
 use Rattle.status.specs.Pick.{pick, all}
 use Rattle.status.specs.Result.{Result, granted}
 use Rattle.status.proofs.Choose.{each}
-use Rattle.status.proofs.Opened.{differ}
+use Rattle.status.proofs.OpenedCall.{differ}
 use Rattle.transfer.specs.declared.Transfer.{Transfer}
 use Rattle.target.specs.Record.{UNANSWERED, AGAIN, holds_of, start_of, set_up_tests, set_up_write_of}
 use Rattle.target.specs.Transmit.{due_of, issued_of, next_of}

@@ -1,4 +1,6 @@
 // The transfer record: what both ports of a command are set up with. It never changes.
+#![tactic(auto)]
+
 ghost use Rattle.std.specs.Prelude.{◌≡◌};
 ghost use Rattle.transfer.specs.Limits.{past, limits_hold, made, made_of};
 

@@ -1,7 +1,7 @@
 use borrow.Author.Rules.{rules}
 use mathlib.Core.Path.{refl, sym, ap, ◌∙◌}
 use Rattle.status.proofs.Choose.{and_true}
-use Rattle.status.proofs.Opened.{opened}
+use Rattle.status.proofs.OpenedCall.{opened}
 use Rattle.arrival.proofs.Passed.{passed}
 use Rattle.arrival.specs.Accept.{accepted}
 use Rattle.arrival.specs.declared.Role.TheVariants.{ReadInitiator}

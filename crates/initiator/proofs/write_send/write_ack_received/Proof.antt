@@ -1,7 +1,7 @@
 use borrow.Author.Rules.{rules}
 use mathlib.Core.List.{[]}
 use mathlib.Core.Path.{sym, ap, ◌∙◌}
-use Rattle.status.proofs.Opened.{confirmable_is}
+use Rattle.status.proofs.OpenedCall.{confirmable_is}
 use Rattle.initiator.specs.WriteSend.{lifted_of}
 use Rattle.initiator.proofs.WriteCounts.{both, ack_counts}
 use Rattle.initiator.proofs.WriteSteps.{ack_closed, ack_counted, ack_lifted}

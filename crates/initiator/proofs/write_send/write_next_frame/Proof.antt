@@ -1,6 +1,6 @@
 use borrow.Author.Rules.{rules}
 use mathlib.Core.Path.{refl, sym, ap, ◌∙◌}
-use Rattle.status.proofs.Opened.{opened}
+use Rattle.status.proofs.OpenedCall.{opened}
 use Rattle.initiator.proofs.WriteReturns.{told, kept_says}
 use Rattle.initiator.proofs.WriteSteps.{begun_starts, begun_same, first_is, served_is}
 use Rattle.initiator.specs.WriteRecord.{starts_of}

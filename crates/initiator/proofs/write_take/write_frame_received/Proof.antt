@@ -7,7 +7,7 @@ use Rattle.arrival.specs.declared.Role.TheVariants.{WriteInitiator}
 use Rattle.initiator.proofs.WriteCounts.{both, arrival_counts}
 use Rattle.initiator.proofs.WriteHeld.{held}
 use Rattle.initiator.specs.WriteTake.{write_arrival_of}
-use Rattle.status.proofs.Opened.{opened}
+use Rattle.status.proofs.OpenedCall.{opened}
 use Rattle.initiator.proofs.write_take.write_frame_received.Statement.{statement}
 use Rattle.initiator.proofs.write_take.write_frame_received.Tie as tie
 

@@ -1,7 +1,7 @@
 -- 1 and 2 first; else `data_step` does it.
 use borrow.Author.Rules.{rules}
 use mathlib.Core.Path.{refl, sym, ◌∙◌}
-use Rattle.status.proofs.Opened.{opened}
+use Rattle.status.proofs.OpenedCall.{opened}
 use Rattle.receiver.specs.DataFrame.{arrival_of}
 use Rattle.receiver.proofs.Views.{step_is}
 use Rattle.receiver.proofs.data_frame.data_received.Statement.{statement}

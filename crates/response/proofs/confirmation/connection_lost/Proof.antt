@@ -1,7 +1,7 @@
 use borrow.Author.Rules.{rules}
 use mathlib.Core.Path.{refl}
 use Rattle.status.proofs.Choose.{in_true, in_false}
-use Rattle.status.proofs.Opened.{entry_is}
+use Rattle.status.proofs.OpenedCall.{entry_is}
 use Rattle.response.proofs.confirmation.connection_lost.Statement.{statement}
 use Rattle.response.proofs.confirmation.connection_lost.Tie as tie
 

@@ -1,5 +1,5 @@
 use borrow.Author.Rules.{rules}
-use Rattle.status.proofs.Opened.{entry_is}
+use Rattle.status.proofs.OpenedCall.{entry_is}
 use Rattle.response.proofs.confirmation.nexus_lost.Statement.{statement}
 use Rattle.response.proofs.confirmation.nexus_lost.Tie as tie
 

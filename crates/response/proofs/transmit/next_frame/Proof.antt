@@ -1,7 +1,7 @@
 use borrow.Author.Rules.{rules}
 use mathlib.Core.Path.{refl, sym, ◌∙◌}
 use Rattle.status.specs.Pick.{pick}
-use Rattle.status.proofs.Opened.{opened, entry_is}
+use Rattle.status.proofs.OpenedCall.{opened, entry_is}
 use Rattle.status.proofs.Choose.{in_false}
 use Rattle.frame.proofs.Hands.{told}
 use Rattle.response.specs.Transmit.{next_of}

@@ -1,5 +1,5 @@
 use borrow.Author.Rules.{rules}
-use Rattle.status.proofs.Opened.{entry_is}
+use Rattle.status.proofs.OpenedCall.{entry_is}
 use mathlib.Core.List.{[]}
 use borrow.Author.Tests.{ne_eqb}
 use Rattle.status.proofs.Choose.{choose, in_false}

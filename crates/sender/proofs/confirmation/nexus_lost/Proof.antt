@@ -1,5 +1,5 @@
 use borrow.Author.Rules.{rules}
-use Rattle.status.proofs.Opened.{entry_is}
+use Rattle.status.proofs.OpenedCall.{entry_is}
 use mathlib.Core.List.{[]}
 use Rattle.sender.proofs.Counting.{both, loss_counts}
 use Rattle.sender.proofs.confirmation.nexus_lost.Statement.{statement}

@@ -1,5 +1,5 @@
 use borrow.Author.Rules.{rules}
-use Rattle.status.proofs.Opened.{entry_is, opened}
+use Rattle.status.proofs.OpenedCall.{entry_is, opened}
 use mathlib.Core.Path.{refl, sym, ◌∙◌}
 use Rattle.sender.proofs.Steps.{next_step}
 use Rattle.sender.proofs.Next.{next_closed, told}

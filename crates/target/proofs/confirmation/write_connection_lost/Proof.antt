@@ -2,7 +2,7 @@ use borrow.Author.Rules.{rules}
 use borrow.Author.Tests.{eq-eqb, ne_eqb}
 use mathlib.Core.Path.{refl}
 use Rattle.status.proofs.Choose.{in_true, in_false}
-use Rattle.status.proofs.Opened.{entry_is}
+use Rattle.status.proofs.OpenedCall.{entry_is}
 use Rattle.target.proofs.confirmation.write_connection_lost.Statement.{statement}
 use Rattle.target.proofs.confirmation.write_connection_lost.Tie as tie
 

@@ -3,7 +3,7 @@ use Prim.Native.Nat.{ℕ, ◌+◌, ◌≤◌}
 use mathlib.Core.List.{List}
 use mathlib.Core.Path.{◌≡◌, refl, sym, ap, ◌∙◌}
 use lib.ListN.{length, take, drop}
-use Rattle.status.proofs.Opened.{opened, entry_is}
+use Rattle.status.proofs.OpenedCall.{opened, entry_is}
 use Rattle.status.specs.Answer.{Left}
 use Rattle.frame.specs.Read.{header_in, iu_of}
 use Rattle.arrival.specs.Accept.{accepted}

@@ -1,7 +1,7 @@
 use borrow.Author.Rules.{rules}
 use mathlib.Core.Path.{refl, sym, ◌∙◌}
 use Rattle.status.proofs.Choose.{in_true, in_false}
-use Rattle.status.proofs.Opened.{entry_is}
+use Rattle.status.proofs.OpenedCall.{entry_is}
 use Rattle.target.specs.Time.{time_of}
 use Rattle.target.proofs.time.write_time_reported.Statement.{statement}
 use Rattle.target.proofs.time.write_time_reported.Tie as tie

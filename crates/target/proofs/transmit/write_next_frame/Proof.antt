@@ -1,7 +1,7 @@
 use borrow.Author.Rules.{rules}
 use mathlib.Core.Path.{refl, sym, ◌∙◌}
 use Rattle.status.specs.Pick.{pick}
-use Rattle.status.proofs.Opened.{opened, entry_is}
+use Rattle.status.proofs.OpenedCall.{opened, entry_is}
 use Rattle.target.specs.Transmit.{next_of}
 use Rattle.target.proofs.transmit.write_next_frame.Statement.{statement}
 use Rattle.target.proofs.transmit.write_next_frame.Tie as tie
