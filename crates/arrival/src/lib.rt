@@ -9,7 +9,7 @@ use status::Refusal;
 use transfer::Transfer;
 
 // Which port of which command the frame arrives at.
-#[derive(Drop)]
+#[derive(Clone, Copy)]
 pub enum Role {
     ReadInitiator,
     WriteInitiator,
@@ -18,7 +18,7 @@ pub enum Role {
 }
 
 // What a role takes a frame for.
-#[derive(Drop)]
+#[derive(Clone, Copy)]
 pub enum Class {
     Data,
     XferRdy,
@@ -28,7 +28,7 @@ pub enum Class {
 }
 
 // A frame that has passed 5 to 8: the IU is len bytes from start.
-#[derive(Drop)]
+#[derive(Clone, Copy)]
 pub struct Arrived {
     pub class: Class,
     pub header: Header,
@@ -36,7 +36,7 @@ pub struct Arrived {
     pub len: usize,
 }
 
-#[derive(Drop)]
+#[derive(Clone, Copy)]
 pub enum Accepted {
     Frame(Arrived),
     Refused(Refusal),

@@ -13,7 +13,7 @@ pub const RESPONSE: u8 = 0x07;
 pub const TASK: u8 = 0x16;
 
 // Byte 10.
-#[derive(Drop)]
+#[derive(Clone, Copy)]
 pub struct Flags {
     // TLR CONTROL, 0 to 3
     pub tlr: u8,
@@ -24,7 +24,7 @@ pub struct Flags {
     pub cdp: bool,
 }
 
-#[derive(Drop)]
+#[derive(Clone, Copy)]
 pub struct Header {
     // the type byte
     pub frametype: u8,
@@ -39,7 +39,7 @@ pub struct Header {
     pub offset: u32,
 }
 
-#[derive(Drop)]
+#[derive(Clone, Copy)]
 pub enum Written {
     // the frame's length
     Frame(usize),
@@ -47,20 +47,20 @@ pub enum Written {
 }
 
 // A frame read: the IU is len bytes from start.
-#[derive(Drop)]
+#[derive(Clone, Copy)]
 pub struct Parsed {
     pub header: Header,
     pub start: usize,
     pub len: usize,
 }
 
-#[derive(Drop)]
+#[derive(Clone, Copy)]
 pub enum Decoded {
     Frame(Parsed),
     Refused(Refusal),
 }
 
-#[derive(Drop)]
+#[derive(Clone, Copy)]
 pub struct XferRdy {
     // requested offset
     pub offset: u32,
@@ -68,13 +68,13 @@ pub struct XferRdy {
     pub len: u32,
 }
 
-#[derive(Drop)]
+#[derive(Clone, Copy)]
 pub enum XferRdyIu {
     Taken(XferRdy),
     Failed(Failure),
 }
 
-#[derive(Drop)]
+#[derive(Clone, Copy)]
 pub enum ResponseIu {
     Taken(Opened),
     Failed(Failure),

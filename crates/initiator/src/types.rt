@@ -3,7 +3,7 @@ use sender::{Burst, Sender};
 use status::{Answer, Failure, Refusal};
 
 #[repr(C)]
-#[derive(Drop)]
+#[derive(Clone, Copy)]
 pub struct Writer {
     // the burst in service; before the first, an empty one at 0
     pub sender: Sender,
@@ -15,20 +15,20 @@ pub struct Writer {
 }
 
 // What an event leaves and answers. A refusal leaves the record as it was.
-#[derive(Drop)]
+#[derive(Clone, Copy)]
 pub struct WriteStepped {
     pub writer: Writer,
     pub answer: Answer,
 }
 
-#[derive(Drop)]
+#[derive(Clone, Copy)]
 pub enum WriteSetup {
     Ready(Writer),
     Refused(Refusal),
 }
 
 // Whether an XFER_RDY is taken.
-#[derive(Drop)]
+#[derive(Clone, Copy)]
 pub(crate) enum XferRdyDisposition {
     // for the next burst
     Next,

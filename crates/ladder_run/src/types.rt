@@ -7,28 +7,28 @@ use status::{Answer, Refusal};
 use target::Target;
 
 // The port that sends: a read's at the target, a write's at the initiator.
-#[derive(Drop)]
+#[derive(Clone, Copy)]
 pub enum Sending {
     Read(Sender),
     Write(Writer),
 }
 
 // The port that receives.
-#[derive(Drop)]
+#[derive(Clone, Copy)]
 pub enum Receiving {
     Read(Receiver),
     Write(Target),
 }
 
 // What the sending port has reported: its number, and the frames that it handed out.
-#[derive(Drop)]
+#[derive(Clone, Copy)]
 pub enum Report {
     Nothing,
     Delivered(u64),
     Failed(u8, u64),
 }
 
-#[derive(Drop)]
+#[derive(Clone, Copy)]
 pub struct Ladder {
     pub sending: Sending,
     pub receiving: Receiving,
@@ -56,28 +56,28 @@ impl Ladder {
     pub const TAG: u16 = 0x0012;
 }
 
-#[derive(Drop)]
+#[derive(Clone, Copy)]
 pub enum Setup {
     Ready(Ladder),
     Refused(Refusal),
 }
 
 // What a call on the sending port leaves and answers.
-#[derive(Drop)]
+#[derive(Clone, Copy)]
 pub struct Asked {
     pub sending: Sending,
     pub answer: Answer,
 }
 
 // What an arrival leaves and answers.
-#[derive(Drop)]
+#[derive(Clone, Copy)]
 pub struct Arrived {
     pub receiving: Receiving,
     pub answer: Answer,
 }
 
 // What a frame says of itself.
-#[derive(Drop)]
+#[derive(Clone, Copy)]
 pub struct Shown {
     pub offset: u32,
     pub bytes: u32,
@@ -85,14 +85,14 @@ pub struct Shown {
 }
 
 // A frame that met its fate: the receiving port as it is left, and its word.
-#[derive(Drop)]
+#[derive(Clone, Copy)]
 pub struct Met {
     pub receiving: Receiving,
     pub receipt: ladder_text::Receipt,
 }
 
 // The sending port while confirmations come; one of them is missing.
-#[derive(Drop)]
+#[derive(Clone, Copy)]
 pub struct Confirming {
     pub sending: Sending,
     pub report: Report,
@@ -100,26 +100,26 @@ pub struct Confirming {
 }
 
 // A frame that was handed out, or none was due.
-#[derive(Drop)]
+#[derive(Clone, Copy)]
 pub enum Due {
     Row(Row),
     Nothing,
 }
 
-#[derive(Drop)]
+#[derive(Clone, Copy)]
 pub struct Out {
     pub ladder: Ladder,
     pub due: Due,
 }
 
 // A line of a ladder.
-#[derive(Drop)]
+#[derive(Clone, Copy)]
 pub enum Line {
     Row(Row),
     Verdict(Verdict),
 }
 
-#[derive(Drop)]
+#[derive(Clone, Copy)]
 pub struct Next {
     pub ladder: Ladder,
     pub line: Line,

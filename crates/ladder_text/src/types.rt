@@ -1,14 +1,14 @@
 // The words and numbers of run files and ladders, and what their readers answer.
 
 // A decimal number, or bytes that are none that fits.
-#[derive(Drop)]
+#[derive(Clone, Copy)]
 pub enum Number {
     Value(u32),
     Misfit,
 }
 
 // Four numbers side by side.
-#[derive(Drop)]
+#[derive(Clone, Copy)]
 pub struct Quad {
     pub a: u32,
     pub b: u32,
@@ -16,26 +16,26 @@ pub struct Quad {
     pub d: u32,
 }
 
-#[derive(Drop)]
+#[derive(Clone, Copy)]
 pub enum ReadQuad {
     Are(Quad),
     Misfit,
 }
 
-#[derive(Drop)]
+#[derive(Clone, Copy)]
 pub enum Direction {
     Read,
     Write,
 }
 
-#[derive(Drop)]
+#[derive(Clone, Copy)]
 pub enum ReadDirection {
     Is(Direction),
     Misfit,
 }
 
 // What becomes of a frame and of its confirmation.
-#[derive(Drop)]
+#[derive(Clone, Copy)]
 pub enum Fate {
     Ok,
     // ACK lost
@@ -47,14 +47,14 @@ pub enum Fate {
     Lost,
 }
 
-#[derive(Drop)]
+#[derive(Clone, Copy)]
 pub enum ReadFate {
     Is(Fate),
     Misfit,
 }
 
 // What the receiver made of a frame.
-#[derive(Drop)]
+#[derive(Clone, Copy)]
 pub enum Receipt {
     Stored,
     Discarded,
@@ -64,27 +64,27 @@ pub enum Receipt {
     Number(u32),
 }
 
-#[derive(Drop)]
+#[derive(Clone, Copy)]
 pub enum ReadReceipt {
     Is(Receipt),
     Misfit,
 }
 
 // The sender's verdict.
-#[derive(Drop)]
+#[derive(Clone, Copy)]
 pub enum Outcome {
     Delivered,
     Failed,
 }
 
-#[derive(Drop)]
+#[derive(Clone, Copy)]
 pub enum ReadOutcome {
     Is(Outcome),
     Misfit,
 }
 
 // Line one of a run file.
-#[derive(Drop)]
+#[derive(Clone, Copy)]
 pub struct Run {
     pub direction: Direction,
     // byte count
@@ -96,14 +96,14 @@ pub struct Run {
     pub limit: u32,
 }
 
-#[derive(Drop)]
+#[derive(Clone, Copy)]
 pub enum ReadRun {
     Is(Run),
     Misfit,
 }
 
 // One frame of a ladder.
-#[derive(Drop)]
+#[derive(Clone, Copy)]
 pub struct Row {
     pub frame: u32,
     pub offset: u32,
@@ -113,14 +113,14 @@ pub struct Row {
     pub receipt: Receipt,
 }
 
-#[derive(Drop)]
+#[derive(Clone, Copy)]
 pub enum ReadRow {
     Is(Row),
     Misfit,
 }
 
 // The last line of a ladder.
-#[derive(Drop)]
+#[derive(Clone, Copy)]
 pub struct Verdict {
     pub outcome: Outcome,
     pub number: u32,
@@ -130,14 +130,14 @@ pub struct Verdict {
     pub filled: u32,
 }
 
-#[derive(Drop)]
+#[derive(Clone, Copy)]
 pub enum ReadVerdict {
     Is(Verdict),
     Misfit,
 }
 
 // A run file, or the number of its first line that does not fit; 0 where it is too long.
-#[derive(Drop)]
+#[derive(Clone, Copy)]
 pub enum RunFile {
     // The fates are the lines from place `fates` on.
     Run { run: Run, fates: usize },
@@ -145,14 +145,14 @@ pub enum RunFile {
 }
 
 // The fate of the next frame, and where the one after it stands.
-#[derive(Drop)]
+#[derive(Clone, Copy)]
 pub struct NextFate {
     pub fate: Fate,
     pub next: usize,
 }
 
 // The place behind what was printed; or fewer than `ROOM` bytes remain, and nothing is printed.
-#[derive(Drop)]
+#[derive(Clone, Copy)]
 pub enum Put {
     At(usize),
     NoRoom,

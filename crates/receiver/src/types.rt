@@ -2,7 +2,7 @@
 use receiver_steps::Receiver;
 use status::Refusal;
 
-#[derive(Drop)]
+#[derive(Clone, Copy)]
 pub enum ReadSetup {
     Ready(Receiver),
     Refused(Refusal),

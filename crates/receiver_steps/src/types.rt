@@ -3,7 +3,7 @@ use status::{Answer, Failure};
 use transfer::Transfer;
 
 #[repr(C)]
-#[derive(Drop)]
+#[derive(Clone, Copy)]
 pub struct Receiver {
     pub transfer: Transfer,
     // the burst
@@ -18,14 +18,14 @@ pub struct Receiver {
 }
 
 // What a step or an event leaves and answers. A refusal leaves the record as it was.
-#[derive(Drop)]
+#[derive(Clone, Copy)]
 pub struct Stepped {
     pub receiver: Receiver,
     pub answer: Answer,
 }
 
 // What is done with a DATA frame.
-#[derive(Drop)]
+#[derive(Clone, Copy)]
 pub enum DataDisposition {
     // the burst is filled: discarded, and nothing changes
     Discard,

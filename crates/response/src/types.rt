@@ -3,7 +3,7 @@ use status::{Answer, Refusal};
 use transfer::Transfer;
 
 #[repr(C)]
-#[derive(Drop)]
+#[derive(Clone, Copy)]
 pub struct Responder {
     pub transfer: Transfer,
     // the length of the IU that it was set up with
@@ -15,13 +15,13 @@ pub struct Responder {
 }
 
 // What an event leaves and answers. A refusal leaves the record as it was.
-#[derive(Drop)]
+#[derive(Clone, Copy)]
 pub struct Stepped {
     pub responder: Responder,
     pub answer: Answer,
 }
 
-#[derive(Drop)]
+#[derive(Clone, Copy)]
 pub enum Setup {
     Ready(Responder),
     Refused(Refusal),

@@ -2,7 +2,7 @@
 use sender_steps::Sender;
 use status::Refusal;
 
-#[derive(Drop)]
+#[derive(Clone, Copy)]
 pub enum ReadSetup {
     Ready(Sender),
     Refused(Refusal),

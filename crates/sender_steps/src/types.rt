@@ -4,7 +4,7 @@ use transfer::Transfer;
 
 // What one XFER_RDY asks for, or a whole read.
 #[repr(C)]
-#[derive(Drop)]
+#[derive(Clone, Copy)]
 pub struct Burst {
     pub base: u32,
     pub end: u32,
@@ -15,7 +15,7 @@ pub struct Burst {
 }
 
 #[repr(C)]
-#[derive(Drop)]
+#[derive(Clone, Copy)]
 pub struct Sender {
     pub transfer: Transfer,
     pub burst: Burst,
@@ -35,7 +35,7 @@ pub struct Sender {
 }
 
 // What a step or an event leaves and answers. A refusal leaves the record as it was.
-#[derive(Drop)]
+#[derive(Clone, Copy)]
 pub struct Stepped {
     pub sender: Sender,
     pub answer: Answer,

@@ -7,7 +7,7 @@ use target::Target;
 
 // The answer of a call. A field that a case does not name is 0.
 #[repr(C)]
-#[derive(Drop)]
+#[derive(Clone, Copy)]
 pub struct CAnswer {
     // the paper's number, 0 where it has none
     pub number: u8,
@@ -73,35 +73,35 @@ impl CAnswer {
 
 // What a call over each record leaves and answers.
 #[repr(C)]
-#[derive(Drop)]
+#[derive(Clone, Copy)]
 pub struct ReadTargetReturn {
     pub left: Sender,
     pub answer: CAnswer,
 }
 
 #[repr(C)]
-#[derive(Drop)]
+#[derive(Clone, Copy)]
 pub struct ReadInitiatorReturn {
     pub left: Receiver,
     pub answer: CAnswer,
 }
 
 #[repr(C)]
-#[derive(Drop)]
+#[derive(Clone, Copy)]
 pub struct WriteInitiatorReturn {
     pub left: Writer,
     pub answer: CAnswer,
 }
 
 #[repr(C)]
-#[derive(Drop)]
+#[derive(Clone, Copy)]
 pub struct WriteTargetReturn {
     pub left: Target,
     pub answer: CAnswer,
 }
 
 #[repr(C)]
-#[derive(Drop)]
+#[derive(Clone, Copy)]
 pub struct ResponseReturn {
     pub left: Responder,
     pub answer: CAnswer,
@@ -109,7 +109,7 @@ pub struct ResponseReturn {
 
 // A frame's header.
 #[repr(C)]
-#[derive(Drop)]
+#[derive(Clone, Copy)]
 pub struct Header {
     // the type byte
     pub frametype: u8,
@@ -132,7 +132,7 @@ pub struct Header {
 
 // An XFER_RDY's IU.
 #[repr(C)]
-#[derive(Drop)]
+#[derive(Clone, Copy)]
 pub struct XferRdy {
     // requested offset
     pub offset: u32,
@@ -141,14 +141,14 @@ pub struct XferRdy {
 }
 
 #[repr(C)]
-#[derive(Drop)]
+#[derive(Clone, Copy)]
 pub struct HeaderReturn {
     pub left: Header,
     pub answer: CAnswer,
 }
 
 #[repr(C)]
-#[derive(Drop)]
+#[derive(Clone, Copy)]
 pub struct XferRdyReturn {
     pub left: XferRdy,
     pub answer: CAnswer,

@@ -5,14 +5,14 @@ ghost use Rattle.status.specs.Answer.{says, number, stores, refuses};
 use crate::words::{Failure, Refusal};
 
 // A part of the bytes that were lent: len bytes from start.
-#[derive(Drop)]
+#[derive(Clone, Copy)]
 pub struct Part {
     pub start: usize,
     pub len: usize,
 }
 
 // What a RESPONSE's IU says (request K9).
-#[derive(Drop)]
+#[derive(Clone, Copy)]
 pub struct Opened {
     // DATAPRES: 0 no data, 1 response data, 2 sense data
     pub kind: u8,
@@ -21,7 +21,7 @@ pub struct Opened {
     pub sense: usize,
 }
 
-#[derive(Drop)]
+#[derive(Clone, Copy)]
 pub enum Answer {
     // 1 to 8: nothing changed
     Refused(Refusal),

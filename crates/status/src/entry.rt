@@ -5,7 +5,7 @@ ghost use Rattle.status.specs.Entry.{entry_of, confirmable_of};
 use crate::words::Refusal;
 
 // Whether a call is refused before its own work.
-#[derive(Drop)]
+#[derive(Clone, Copy)]
 pub enum Entry {
     Open,
     Closed(Refusal),

@@ -3,7 +3,7 @@ ghost use Rattle.std.specs.Prelude.{◌≡◌};
 ghost use Rattle.status.specs.Number.{refusal_number, failure_number};
 
 // A refusal changes nothing.
-#[derive(Drop)]
+#[derive(Clone, Copy)]
 pub enum Refusal {
     BadRequest,
     TransferEnded,
@@ -16,7 +16,7 @@ pub enum Refusal {
 }
 
 // A failure ends the port.
-#[derive(Drop)]
+#[derive(Clone, Copy)]
 pub enum Failure {
     DataOffsetError,
     TooMuchData,

@@ -3,7 +3,7 @@ use receiver::Receiver;
 use status::{Answer, Refusal};
 
 #[repr(C)]
-#[derive(Drop)]
+#[derive(Clone, Copy)]
 pub struct Target {
     // the burst of the last XFER_RDY handed out; before the first, an empty one at 0
     pub receiver: Receiver,
@@ -36,13 +36,13 @@ impl Target {
 }
 
 // What an event leaves and answers. A refusal leaves the record as it was.
-#[derive(Drop)]
+#[derive(Clone, Copy)]
 pub struct WriteStepped {
     pub target: Target,
     pub answer: Answer,
 }
 
-#[derive(Drop)]
+#[derive(Clone, Copy)]
 pub enum WriteSetup {
     Ready(Target),
     Refused(Refusal),

@@ -7,7 +7,7 @@ ghost use Rattle.transfer.specs.Limits.{past, limits_hold, made, made_of};
 use status::Refusal;
 
 #[repr(C)]
-#[derive(Drop)]
+#[derive(Clone, Copy)]
 pub struct Transfer {
     // byte count
     pub count: u32,
@@ -35,7 +35,7 @@ pub struct Transfer {
     pub start: u32,
 }
 
-#[derive(Drop)]
+#[derive(Clone, Copy)]
 pub enum Made {
     Taken(Transfer),
     Refused(Refusal),
