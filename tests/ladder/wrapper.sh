@@ -279,7 +279,7 @@ mkdir -p -- "$tmp/repository/crates/ladder/must-fail" "$tmp/rt"
 cp -r -- "$root/ladder" "$root/share" "$tmp/repository/"
 touch -- "$tmp/repository/crates.txt" "$tmp/repository/crates/ladder/source"
 # Instead of rt: it leaves the time of an unchanged program, as rt does.
-printf '#!/bin/sh\nprintf "%%s " "$@" >>"%s/calls"\n[ -e "%s/program" ] || { echo no proof; exit 1; }\nmkdir -p target/bin && cp -p -- "%s/program" target/bin/ladder\n' "$tmp" "$tmp" "$tmp" >"$tmp/rt/rt"
+printf '#!/bin/sh\nprintf "%%s in %%s" "$*" "${PWD##*/}" >>"%s/calls"\n[ -e "%s/program" ] || { echo no proof; exit 1; }\nmkdir -p out && cp -p -- "%s/program" out/ladder\n' "$tmp" "$tmp" "$tmp" >"$tmp/rt/rt"
 chmod 755 -- "$tmp/rt/rt"
 # builds NAME CALLS: the wrapper prints the paper's example, and rt was called so.
 builds() {
@@ -293,12 +293,14 @@ fails 'a program that cannot be built' 'the program was not built' env PATH="$tm
 if grep -q '^no proof$' "$tmp/err"; then pass; else fail 'the output of rt is not shown'; fi
 cp -- "$prog" "$tmp/program"
 touch -d '3 hours ago' -- "$tmp/program"
-builds 'a missing program' 'check ladder '
+builds 'a missing program' 'run in ladder'
 builds 'a program that is new' ''
 touch -d '+1 hour' -- "$tmp/repository/crates/ladder/must-fail"/new
 builds 'a new must-fail edit' ''
-touch -d '2 hours ago' -- "$tmp/repository/target/bin/ladder"
-builds 'a program older than a source' 'check ladder '
+touch -d '+1 hour' -- "$tmp/repository/crates/ladder/out"/kept
+builds 'new work of rt beside the program' ''
+touch -d '2 hours ago' -- "$tmp/repository/crates/ladder/out/ladder"
+builds 'a program older than a source' 'run in ladder'
 
 find "$TMPDIR" -mindepth 1 >"$tmp/left"
 if [[ ! -s $tmp/left ]]; then pass; else fail "left behind: $(head -n 1 -- "$tmp/left")"; fi

@@ -42,7 +42,7 @@ fn file(g: &mut Rng) -> Vec<u8> {
 }
 
 pub fn program() -> String {
-    std::env::var("LADDER").unwrap_or(concat!(env!("CARGO_MANIFEST_DIR"), "/../../target/bin/ladder").to_string())
+    std::env::var("LADDER").unwrap_or(concat!(env!("CARGO_MANIFEST_DIR"), "/../../crates/ladder/out/ladder").to_string())
 }
 
 pub fn one(input: &[u8]) -> Result<(), String> {
