@@ -28,15 +28,18 @@ def read(path):
 
 
 def exported(crate):
-    """The functions that a crate exports: name, and the module or crate where it is defined. Its lib.rt has no other kind of line."""
+    """The functions that a crate exports: name, and the module or crate where it is defined. Its lib.rt has no other kind of item."""
     out = {}
-    for line in read(f"{crate}/src/lib.rt").split("\n"):
-        use = re.fullmatch(r"pub use (\w+)::(\w+)(?: as (\w+))?;", line)
+    text = re.sub(r"(?m)//.*", "", read(f"{crate}/src/lib.rt"))
+    for item in filter(None, (item.strip() for item in re.split(r";|^#!\[tactic\(auto\)\]$", text, flags=re.M))):
+        use = re.fullmatch(r"pub use (\w+)::(?:(\w+(?: as \w+)?)|\{([\w\s,]*)\})", item)
         if use:
-            if use[2][0].islower():
-                out[use[3] or use[2]] = (use[1], use[2])
-        elif not re.fullmatch(r"(//.*|mod \w+;|)", line):
-            wrong(f"{crate}/src/lib.rt: not a comment, `mod x;` or `pub use a::b;`: {line}")
+            for name in re.findall(r"\w+(?: as \w+)?", use[2] or use[3]):
+                defined, _, shown = name.partition(" as ")
+                if defined[0].islower():
+                    out[shown or defined] = (use[1], defined)
+        elif not re.fullmatch(r"mod \w+", item):
+            wrong(f"{crate}/src/lib.rt: not a comment, `mod x;` or `pub use a::b;`: {item}")
     return out
 
 
@@ -74,7 +77,7 @@ for at, line in enumerate(lines):
         wrong(f"{label[1]} stands twice in Calls.antt")
     listed[label[1]] = meant[1] if meant else None
 # A clause without a label passes on to a labelled helper.
-helpers = "readSignalled signalled writeSignalled targetSignalled".split()
+helpers = "read_signalled signalled write_signalled target_signalled".split()
 for at, line in enumerate(lines):
     clause = re.match(r"(\w+) \(?(?:Signal|SenderCall|ReaderCall|WriterCall|TargetCall)\.[^=]*= (.*)", line)
     if clause and not lines[at - 1].startswith("-- ") and not re.match(r"(lending )?\(?(%s) g \w\)?( b)?$" % "|".join(helpers), clause[2]):

@@ -54,7 +54,7 @@ for what, script, page, pattern, new, complaint in cases:
         for part in ["tests", "share", "man", "include"]:
             shutil.copytree(root / part, copy / part, ignore=shutil.ignore_patterns("target"))
         if page.startswith("crates/"):
-            shutil.copytree(root / "crates", copy / "crates")
+            shutil.copytree(root / "crates", copy / "crates", ignore=shutil.ignore_patterns("out"))
         else:
             (copy / "crates").symlink_to(root / "crates")
         if pattern is None:
@@ -68,7 +68,7 @@ for what, script, page, pattern, new, complaint in cases:
                 print(f"FAILED: {what}: nothing to alter in {page}")
                 continue
             (copy / page).write_text(altered, encoding="utf-8")
-        done = subprocess.run([sys.executable, here / f"{script}.py", copy], capture_output=True, text=True)
+        done = subprocess.run([sys.executable, "-B", here / f"{script}.py", copy], capture_output=True, text=True)
         if complaint is None:
             if done.returncode != 0:
                 missed += 1

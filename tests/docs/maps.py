@@ -28,7 +28,7 @@ def rows(name, columns):
             yield cells
 
 
-listed = {line.split(":")[0]: line.split(":")[1].split() for line in page("crates.txt").splitlines() if re.match(r"\w+:", line)}
+listed = sources.listed(root)
 readme = list(rows("README.md", 3))
 if [cells[0] for cells in readme] != crates:
     wrong("README.md", "the map of crates is not that of crates.txt")

@@ -16,7 +16,7 @@ def wrong(where, what):
 
 def pages():
     for path in sorted(root.rglob("*.md")):
-        if not {"target", ".git"} & set(path.relative_to(root).parts):
+        if not {"target", "out", ".git"} & set(path.relative_to(root).parts):
             yield path
 
 

@@ -5,8 +5,14 @@ import re
 PLACE = {"specs": ".antt", "proofs": ".antt", "src": ".rt"}
 
 
+def listed(root):
+    """The crates of crates.txt, each with what it stands on."""
+    lines = re.findall(r"^(\w+)(?: staticlib)?:(.*)$", (root / "crates.txt").read_text(encoding="utf-8"), re.M)
+    return {name: below.split() for name, below in lines}
+
+
 def crates(root):
-    return [line.split(":")[0] for line in (root / "crates.txt").read_text().splitlines() if re.match(r"\w+:", line)]
+    return list(listed(root))
 
 
 @functools.lru_cache(maxsize=None)
@@ -38,6 +44,10 @@ def functions(root, crate):
     """The public functions of a crate: what lib.rt exports, the methods of its types, and what C calls. A method has its type in front."""
     names = set()
     for path in sorted((root / "crates" / crate / "src").glob("*.rt")):
+        if path.stem == "lib":
+            for used in re.findall(r"^pub use \w+::(?:(\w+(?: as \w+)?);|\{([\w\s,]*)\};)", text(path), re.M):
+                shown = (name.split(" as ")[-1] for name in re.findall(r"\w+(?: as \w+)?", "".join(used)))
+                names.update(name for name in shown if name[0].islower())
         owner = ""
         for line in text(path).split("\n"):
             impl = re.match(r"impl (\w+)", line)
@@ -45,9 +55,6 @@ def functions(root, crate):
             made = re.match(r'\s*pub (extern "C" )?fn (\w+)', line)
             if made and (owner or made[1] or path.stem == "lib"):
                 names.add(owner + made[2])
-            used = re.match(r"pub use \w+::([a-z]\w*)(?: as (\w+))?;", line)
-            if used and path.stem == "lib":
-                names.add(used[2] or used[1])
     return names
 
 
