@@ -15,9 +15,9 @@ FENCED = "```sh\necho one\n```\n```text\ntwo\n```\n"
 
 # what is wrong, script, page, pattern (None: the page becomes a command block), replacement, words of the complaint (None: there is none)
 cases = [
-    ("a definition that is not in its file", "names", "docs/RULES.md", DEFINITION, r"\1`noSuchName`", "`noSuchName` is not in crates/"),
-    ("the same in T10", "names", "docs/T10.md", DEFINITION, r"\1`noSuchName`", "`noSuchName` is not in crates/"),
-    ("the same in READING", "names", "docs/READING.md", r"(specs/\w+ )`(\w+)`", r"\1`noSuchName`", "`noSuchName` is not in crates/"),
+    ("a definition that is not in its file", "names", "docs/RULES.md", DEFINITION, r"\1`no_such_name`", "`no_such_name` is not in crates/"),
+    ("the same in T10", "names", "docs/T10.md", DEFINITION, r"\1`no_such_name`", "`no_such_name` is not in crates/"),
+    ("the same in READING", "names", "docs/READING.md", r"(specs/\w+ )`(\w+)`", r"\1`no_such_name`", "`no_such_name` is not in crates/"),
     ("a file that is not there", "names", "docs/RULES.md", r"^(\|[^|`\n]*\|[^|`\n]*specs/)\w+ ", r"\1NoSuchFile ", "no file "),
     ("a function that is not public", "names", "docs/RULES.md", CONTRACT, "| sender `no_such`", "no public function of sender"),
     ("a public function without a row", "names", "docs/RULES.md", r"`Transfer::new`", "", "no row has the contract of transfer `Transfer::new`"),
@@ -33,7 +33,7 @@ cases = [
     ("a page that is too long", "pages", "docs/TRUST.md", r"\Z", "\n" * 500, "more than 500 lines"),
     ("a crate that is missing in the map", "maps", "README.md", r"^\| arrival \|.*\n", "", "the map of crates is not"),
     ("a crate that is not below", "maps", "README.md", r"\| initiator, target \|", "| initiator, response |", "link does not build on response"),
-    ("a law that is not in its file", "maps", "docs/PROOFS.md", r"`next-step`\), Views", "`no-such-law`), Views", "`no-such-law` is not in crates/sender"),
+    ("a law that is not in its file", "maps", "docs/PROOFS.md", r"`next_step`\), Views", "`no_such_law`), Views", "`no_such_law` is not in crates/sender"),
     ("a count of lines", "maps", "docs/PROOFS.md", r"about (\S+) lines", r"about 1\1 lines", "lines of code"),
     ("a count of edits", "maps", "docs/TESTING.md", r"crates, (\d+) edits", r"crates, 1\1 edits", "edits"),
     ("a count of functions", "maps", "docs/RULES.md", r"exports (\d+) C", r"exports 1\1 C", "C functions"),

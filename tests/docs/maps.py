@@ -57,7 +57,7 @@ for what, files in [("code", "src/**/*.rt"), ("definitions", "specs/**/*.antt"),
 
 edits = sorted((root / "crates").glob("*/*/*.edit"))
 kept = sum(path.parts[-2] == "must-fail" for path in edits)
-for pattern, truth in [(r"\| (\d+) crates, \d+ edits \|", len(crates)), (r"\| \d+ crates, (\d+) edits \|", kept), (r"\| (\d+) logs \|", kept)]:
+for pattern, truth in [(r"\| (\d+) crates, \d+ edits \|", len(crates)), (r"\| \d+ crates, (\d+) edits \|", kept), (r"\| (\d+) edits tried \|", kept)]:
     if re.findall(pattern, page("docs/TESTING.md")) != [str(truth)]:
         wrong("docs/TESTING.md", f"{pattern} is {truth}")
 mutants = sum(path.read_text(encoding="utf-8").count("\nname: ") for path in (root / "tests/reference/mutants.d").glob("*.edits"))
