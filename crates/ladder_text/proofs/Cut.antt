@@ -60,9 +60,6 @@ part_found c at r s e =
     let n : r - at ≡ length (before c (drop at s)) = omega arith in
     rw n (take_before c (drop at s))
 
-pub short_from : (c at : ℕ) (s : List ℕ) → at ≤ length s → at + length (before c (drop at s)) ≤ length s
-short_from c at s p = omega (arith, short_before c (drop at s), length-drop at s)
-
 -- the bytes from `at` on are no fewer than the part q there
 pub within : (c at : ℕ) (s q : List ℕ) → at ≤ length s → q ≡ before c (drop at s) → at + length q ≤ length s
 within c at s q p e = omega (arith, ap length e, short_before c (drop at s), length-drop at s)

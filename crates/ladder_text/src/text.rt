@@ -6,7 +6,8 @@ ghost use Rattle.ladder_text.specs.Lent.{Shows, part_in, line_in, field_start, f
 // The place of the first c from `at` on; the end where there is none.
 fn find(s: &[u8], at: usize, c: u8) -> usize
     requires { at ≤ length s.now }
-    ensures { result ≡ at + length (before c (drop at s.now)) }
+    ensures within { result ≤ length s.now }
+    ensures place { result ≡ at + length (before c (drop at s.now)) }
 {
     let mut i = at;
     while i < s.len() {
