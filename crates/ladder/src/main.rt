@@ -1,7 +1,8 @@
 // The ladder program: standard input to standard output. All that matters is in crate `ladder_print`; what was read and written no contract can say.
 #![tactic(auto)]
 
-ghost use Rattle.std.specs.Prelude.{◌≡◌, ◌≤◌, length};
+ghost use Rattle.std.specs.Prelude.{◌≡◌, ◌≤◌, length, take};
+ghost use Rattle.std.specs.Io.KnownBytes.{Consumes};
 
 use ladder_print::Printed;
 use std::io::{ErrorKind, Read, Write};
@@ -21,8 +22,9 @@ fn text_buffer() -> [u8; 1_340_284]
 }
 
 // Reads until the buffer is full or the input ends, a failed read being the end; how many bytes.
-fn read_full(from: &mut impl Read, buf: &mut [u8]) -> usize
-    ensures { result ≤ length buf.new }
+fn read_full<R: Read>(from: &mut R, buf: &mut [u8]) -> usize
+    ensures within { result ≤ length buf.new }
+    ensures bytes { Consumes (R.remaining from.old) (R.remaining from.new) (take result buf.new) }
 {
     let mut n = 0;
     for _ in 0..u64::MAX {
