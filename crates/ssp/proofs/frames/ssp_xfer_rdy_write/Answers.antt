@@ -1,4 +1,3 @@
-use borrow.Author.Rules.{rules}
 use native.Mathlib.Omega.{arith}
 use Rattle.ssp.proofs.Written.{short, roomy}
 use Rattle.ssp.proofs.frames.ssp_xfer_rdy_write.Goals as goal

@@ -1,8 +1,5 @@
-use borrow.Author.Rules.{rules}
-use mathlib.Core.Path.{sym, ap, ◌∙◌}
 use native.Mathlib.Omega.{arith}
-use Rattle.response.specs.Record.{made}
-use Rattle.ssp.proofs.Passed.{readied, refused, too_long}
+use Rattle.ssp.proofs.Passed.{refused, too_long}
 use Rattle.ssp.proofs.respond.set_up.Goals as goal
 
 -- was returns

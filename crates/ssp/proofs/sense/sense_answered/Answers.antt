@@ -1,4 +1,3 @@
-use borrow.Author.Rules.{rules}
 use Rattle.status.specs.Pick.{pick}
 use Rattle.frame.specs.Response.{sense_of}
 use Rattle.frame.proofs.Parts.{no_part, shows_within}

@@ -1,6 +1,4 @@
-use borrow.Author.Rules.{rules}
 use native.Mathlib.Omega.{arith}
-use lib.ListN.{length}
 use Rattle.receiver_steps.proofs.Held.{lent}
 use Rattle.ssp.proofs.short_read_initiator.store.Goals as goal
 

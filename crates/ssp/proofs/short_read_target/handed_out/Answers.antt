@@ -1,4 +1,3 @@
-use borrow.Author.Rules.{rules}
 use Rattle.sender_steps.proofs.Held.{lent_holds}
 use Rattle.ssp.proofs.short_read_target.handed_out.Goals as goal
 

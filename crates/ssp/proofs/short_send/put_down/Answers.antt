@@ -1,4 +1,3 @@
-use borrow.Author.Rules.{rules}
 use native.Mathlib.Omega.{arith}
 use Rattle.ssp.proofs.FullFrame.{fitting, put_full_lem}
 use Rattle.ssp.proofs.short_send.put_down.Goals as goal

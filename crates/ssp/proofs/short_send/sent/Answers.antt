@@ -1,4 +1,3 @@
-use borrow.Author.Rules.{rules}
 use native.Mathlib.Omega.{arith}
 use Rattle.sender_steps.proofs.Held.{held}
 use Rattle.ssp.proofs.FullFrame.{sized, sent_is}

@@ -1,4 +1,3 @@
-use borrow.Author.Rules.{rules}
 use Rattle.ssp.proofs.WriteCases.{full_of}
 use Rattle.ssp.proofs.short_write_initiator.hand_out.Goals as goal
 

@@ -1,4 +1,3 @@
-use borrow.Author.Rules.{rules}
 use native.Mathlib.Omega.{arith}
 use Rattle.ssp.proofs.FullFrame.{fitting}
 use Rattle.ssp.proofs.WriteCases.{full_of, handed_is}

@@ -1,4 +1,3 @@
-use borrow.Author.Rules.{rules}
 use Rattle.ssp.proofs.WriteCases.{holds_well}
 use Rattle.ssp.proofs.short_write_initiator.holds.Goals as goal
 

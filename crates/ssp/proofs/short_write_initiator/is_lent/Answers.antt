@@ -1,7 +1,6 @@
 use borrow.Author.Rules.{rules}
 use lib.ListN.{length}
 use borrow.Author.Tests.{not-false}
-use Rattle.ssp.proofs.Cases.{no}
 use Rattle.ssp.proofs.WriteCases.{lent_well}
 use Rattle.ssp.proofs.short_write_initiator.is_lent.Goals as goal
 

@@ -1,4 +1,3 @@
-use borrow.Author.Rules.{rules}
 use Rattle.status.proofs.Choose.{choose}
 use Rattle.ssp.specs.ShortSend.{last_told}
 use Rattle.ssp.proofs.short_write_initiator.last_told.Goals as goal

@@ -1,4 +1,3 @@
-use borrow.Author.Rules.{rules}
 use Rattle.ssp.proofs.TargetCases.{lent_well}
 use Rattle.ssp.proofs.short_write_target.is_lent.Goals as goal
 

@@ -1,8 +1,4 @@
-use borrow.Author.Rules.{rules}
-use mathlib.Core.Path.{sym, ◌∙◌}
-use native.Mathlib.Omega.{arith}
 use borrow.Author.Tests.{not-false}
-use Rattle.ssp.proofs.Cases.{no}
 use Rattle.ssp.proofs.TargetCases.{tag_is}
 use Rattle.ssp.proofs.short_write_target.is_next.Goals as goal
 

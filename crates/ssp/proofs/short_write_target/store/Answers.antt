@@ -1,4 +1,3 @@
-use borrow.Author.Rules.{rules}
 use native.Mathlib.Omega.{arith}
 use Rattle.receiver_steps.proofs.Held.{lent}
 use Rattle.target.proofs.Held.{core_lent}
