@@ -2,7 +2,7 @@
 use Prim.Native.Nat.{ℕ, ◌+◌, ◌-◌, ◌≤◌}
 use mathlib.Core.List.{List}
 use mathlib.Core.Bool.{Bool, true, false, not, ◌||◌}
-use mathlib.Core.Path.{◌≡◌, refl, sym, ap, ◌∙◌}
+use mathlib.Core.Path.{◌≡◌, refl, ap, ◌∙◌}
 use native.Mathlib.Omega.{arith}
 use lib.Dec.{eqb}
 use lib.ListN.{length, take, drop, length-take, length-drop}
@@ -17,7 +17,7 @@ use Rattle.frame.specs.Write.{writable}
 use Rattle.frame.specs.RoundTrip.{InRange}
 use Rattle.frame.specs.declared.types.Header.{Header}
 use Rattle.frame.specs.declared.types.Parsed.{Parsed}
-use Rattle.frame.proofs.RoundTrip.{Accepted, accepted, comes_back}
+use Rattle.frame.proofs.RoundTrip.{accepted, comes_back}
 use Rattle.frame.proofs.Formed.{formed}
 use Rattle.arrival.specs.Accept.{class_of, is_taken, screen_of, screened, accept_of}
 use Rattle.arrival.specs.declared.Role.{Role}

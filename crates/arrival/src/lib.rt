@@ -43,6 +43,7 @@ pub enum Accepted {
 }
 
 // One match on the type byte, by role; every other number is refused.
+#[tactic(auto, unfolding(crate::specs::Accept::class_of, status::specs::Pick::pick))]
 fn class_of(role: Role, frametype: u8) -> Class
     ensures { result ≡ class_of role frametype }
 {

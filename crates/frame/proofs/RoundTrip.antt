@@ -3,10 +3,8 @@ use Prim.Native.Nat.{ℕ, zero, suc, ◌+◌, ◌-◌, ◌/◌, ◌%◌, ◌^◌
 use mathlib.Core.List.{List, [], ◌∷◌, ◌++◌}
 use mathlib.Core.Bool.{Bool, true, false}
 use mathlib.Core.Path.{◌≡◌, refl, sym, ap, subst, ◌∙◌}
-use mathlib.Core.Logic.{⊎_elim}
 use native.Mathlib.Decide.{ℕ_discrete}
 use native.Mathlib.Omega.{arith}
-use lib.Dec.{leb, ltb, eqb}
 use lib.ListN.{length, get_or, take, drop, replicate, length-append, length-replicate, length-take, length-drop, get_or-append}
 use lib.Seq.{take_at, get_or-take, get_or-drop, get_or-append-add}
 use borrow.Author.Tests.{le-leb, eq-eqb, lt-ltb, ltb-true, leb-true}
@@ -17,8 +15,8 @@ use Rattle.status.proofs.OpenedCall.{differ}
 use Rattle.frame.specs.Format.{is_type, field, flags_of, fill_of, header_bytes, data_bytes, encode}
 use Rattle.frame.specs.Write.{request, writable}
 use Rattle.frame.specs.Read.{fill_count, header_in, well_formed, iu_length, iu_of, parsed, decode}
-use Rattle.frame.specs.Reserved.{bytes_at, cleared, kept}
-use Rattle.frame.specs.RoundTrip.{Bytes, InRange, ComesBack, WrittenAgain, Differs, DiffersAtMost, XferRdyComesBack}
+use Rattle.frame.specs.Reserved.{cleared, kept}
+use Rattle.frame.specs.RoundTrip.{Bytes, InRange, ComesBack, WrittenAgain, DiffersAtMost, XferRdyComesBack}
 use Rattle.frame.specs.XferRdy.{xfer_rdy_bytes, xfer_rdy_of}
 use Rattle.frame.specs.declared.types.Header.{Header}
 use Rattle.frame.specs.declared.types.Parsed.{Parsed}

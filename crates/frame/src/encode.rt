@@ -15,6 +15,38 @@ pub(crate) fn fill_of(n: usize) -> usize
     (4 - n % 4) % 4
 }
 
+pub(crate) fn head(h: Header, fill: u8) -> [u8; 24]
+    ensures { result ≡ header_bytes h fill }
+{
+    let flags = h.flags;
+    [
+        h.frametype,
+        (h.dest / 256 / 256 % 256) as u8,
+        (h.dest / 256 % 256) as u8,
+        (h.dest % 256) as u8,
+        0,
+        (h.source / 256 / 256 % 256) as u8,
+        (h.source / 256 % 256) as u8,
+        (h.source % 256) as u8,
+        0,
+        0,
+        byte::flag_byte(flags),
+        fill,
+        0,
+        0,
+        0,
+        0,
+        (h.tag / 256 % 256) as u8,
+        (h.tag % 256) as u8,
+        (h.tptt / 256 % 256) as u8,
+        (h.tptt % 256) as u8,
+        (h.offset / 256 / 256 / 256 % 256) as u8,
+        (h.offset / 256 / 256 % 256) as u8,
+        (h.offset / 256 % 256) as u8,
+        (h.offset % 256) as u8,
+    ]
+}
+
 pub(crate) fn can_write(h: Header, n: usize) -> bool
     ensures { result ≡ writable h n }
 {
@@ -28,7 +60,7 @@ fn place(src: &[u8], dst: &mut [u8], at: usize)
     requires { at + length src.now ≤ length dst.old }
     ensures { dst.new ≡ placed dst.old at src.now }
 {
-    bytes::copy(src, &mut dst[at..]);
+    dst[at..at + src.len()].copy_from_slice(src);
 }
 
 // Puts n zeros down at `at`, 3 at most: each number by itself, so that no call to clear memory is made of it.
@@ -85,11 +117,12 @@ pub(crate) fn place_words(h: Header, fill: u8, out: &mut [u8])
 
 // Puts the header of a frame with an IU of n bytes down, where it fits.
 fn place_header(h: Header, n: usize, out: &mut [u8])
-    requires { (24 ≤ length out.old) × (h.dest < 2 ^ 24) × (h.source < 2 ^ 24) }
+    requires { 24 ≤ length out.old }
     ensures { out.new ≡ placed out.old 0 (header_bytes h (fill_of n)) }
 {
     let fill = fill_of(n);
-    place_words(h, fill as u8, out);
+    let header = head(h, fill as u8);
+    place(&header, out, 0);
 }
 
 // 1, 3, else the frame's length, for every IU of n bytes and every output buffer of `room`.

@@ -1,14 +1,11 @@
 -- An arrival in a read, by what is tested first, and what it leaves in the buffer.
 use Prim.Native.Nat.{ℕ, ◌+◌, ◌-◌, ◌≤◌}
-use mathlib.Core.Bool.{Bool, true, false, not}
+use mathlib.Core.Bool.{true, false, not}
 use mathlib.Core.List.{List}
 use mathlib.Core.Path.{◌≡◌, refl, sym, ap, ◌∙◌}
 use lib.ListN.{length, take, drop}
-use Rattle.status.specs.Pick.{pick}
-use Rattle.status.specs.Entry.{entry_of}
-use Rattle.status.specs.Answer.{Said, Left, ◌saying◌}
+use Rattle.status.specs.Answer.{Left}
 use Rattle.status.specs.Result.{Result}
-use Rattle.status.specs.declared.entry.Entry.TheVariants.{Open}
 use Rattle.status.proofs.Choose.{each}
 use Rattle.frame.specs.Read.{header_in, iu_of}
 use Rattle.frame.specs.XferRdy.{xfer_rdy_of}
@@ -19,13 +16,12 @@ use Rattle.arrival.specs.Accept.{accept_of}
 use Rattle.arrival.specs.declared.Role.TheVariants.{ReadInitiator}
 use Rattle.arrival.specs.declared.Class.{Class}
 use Rattle.arrival.specs.declared.Arrived.{Arrived}
-use Rattle.arrival.proofs.Passed.{Passed, passed, part, part_length}
+use Rattle.arrival.proofs.Passed.{passed, part, part_length}
 use Rattle.receiver_steps.specs.Record.{holds_of, lent_of}
 use Rattle.receiver_steps.specs.DataFrame.{data_step_of, storing}
-use Rattle.receiver.specs.DataFrame.{arrival_of}
 use Rattle.receiver_steps.specs.declared.types.Receiver.{Receiver}
 use Rattle.receiver.proofs.Views.{step_is}
-use Rattle.initiator.specs.Read.{read_tests, read_holds_of, read_lent_of, rejected_by, not_expected_of, opened_by, response_of, taken_of, read_arrival_of}
+use Rattle.initiator.specs.Read.{read_tests, read_holds_of, read_lent_of, rejected_by, not_expected_of, opened_by, response_of, taken_of}
 
 -- a read's record, with or without its buffer
 pub read_holds : (r : Receiver) → read_holds_of r ≡ true → (holds_of r ≡ true) × (not r.transfer.write ≡ true)

@@ -1,6 +1,6 @@
 -- What an arrival at the initiator of a read comes to, as plain facts.
-use Prim.Native.Nat.{ℕ, ◌≤◌}
-use mathlib.Core.Bool.{Bool, true, false, not}
+use Prim.Native.Nat.{ℕ}
+use mathlib.Core.Bool.{Bool, true, false}
 use mathlib.Core.List.{List}
 use mathlib.Core.Path.{◌≡◌, refl, sym, ap, ◌∙◌}
 use lib.ListN.{length, get_or}
@@ -9,7 +9,7 @@ use Rattle.status.specs.Pick.{pick, ◌with◌}
 use Rattle.status.specs.Answer.{Said, Left, ◌saying◌, stores}
 use Rattle.status.specs.Result.{Result}
 use Rattle.status.proofs.OpenedCall.{open_entry, ended_entry}
-use Rattle.status.proofs.Leaves.{Leaves, leaves_pick, leaves_unless, unless_gives}
+use Rattle.status.proofs.Leaves.{Leaves, leaves_unless, unless_gives}
 use Rattle.frame.specs.Format.{DATA, RESPONSE, encode}
 use Rattle.frame.specs.Write.{writable}
 use Rattle.frame.specs.Read.{header_in}

@@ -2,8 +2,7 @@
 use Prim.Native.Nat.{ℕ}
 use mathlib.Core.Bool.{Bool, true, false, false≢true}
 use mathlib.Core.List.{List}
-use mathlib.Core.Path.{◌≡◌, refl, sym, ap, ◌∙◌}
-use lib.Dec.{eqb}
+use mathlib.Core.Path.{◌≡◌, refl, sym, ◌∙◌}
 use lib.ListN.{length}
 use Rattle.status.specs.Entry.{entry_of}
 use Rattle.status.specs.Pick.{pick}
@@ -16,7 +15,6 @@ use Rattle.sender.specs.Transmit as transmit
 use Rattle.sender.specs.Confirmation as confirmation
 use Rattle.sender_steps.specs.declared.types.Sender.{Sender}
 use Rattle.sender.proofs.Ended as core
-use Rattle.initiator.specs.Fields.{sender≔}
 use Rattle.initiator.specs.WriteRecord.{holds_of}
 use Rattle.initiator.specs.WriteSend.{lifted_of, lent_of, held_up, begun_of, reached_of, kept_of, next_of, counted_of, confirmed_of, ack_of, nak_of, timeout_of, cut_of, loss_of}
 use Rattle.initiator.specs.WriteTake.{asked_of, burst_taken, write_arrival_of}

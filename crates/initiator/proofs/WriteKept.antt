@@ -1,19 +1,16 @@
 -- Every event leaves a write's well-formed record well-formed; a frame handed out asks that the frame count is below its limit by more than one.
-use Prim.Native.Nat.{ℕ, ◌+◌, ◌-◌, ◌^◌, max, ◌≤◌, ◌<◌}
-use mathlib.Core.Bool.{Bool, true, false, not, ◌&&◌}
+use Prim.Native.Nat.{ℕ, ◌+◌, ◌^◌, max, ◌≤◌, ◌<◌}
+use mathlib.Core.Bool.{Bool, true}
 use mathlib.Core.List.{List}
 use mathlib.Core.Path.{◌≡◌, refl, ap, ◌∙◌}
 use native.Mathlib.Omega.{arith}
 use lib.Dec.{eqb}
 use lib.ListN.{length}
-use borrow.Author.Tests.{eqb-true}
 use Rattle.status.specs.Entry.{entry_of}
-use Rattle.status.specs.Pick.{pick, ◌with◌}
+use Rattle.status.specs.Pick.{◌with◌}
 use Rattle.status.specs.Answer.{Word, Said, Left, ◌saying◌, refuses}
 use Rattle.status.proofs.Leaves.{picked, unless_gives}
 use Rattle.transfer.specs.declared.Transfer.{Transfer}
-use Rattle.frame.specs.declared.types.Header.{Header}
-use Rattle.frame.specs.declared.types.XferRdy.{XferRdy}
 use Rattle.sender_steps.specs.Fields.{unanswered≔}
 use Rattle.sender.specs.Transmit as transmit
 use Rattle.sender_steps.specs.Confirmation as confirmation
@@ -21,15 +18,14 @@ use Rattle.sender_steps.specs.Record as sender
 use Rattle.sender_steps.specs.declared.types.Burst.{Burst}
 use Rattle.sender_steps.specs.declared.types.Sender.{Sender}
 use Rattle.sender_steps.proofs.Held as core
-use Rattle.sender.proofs.Kept.{begins_holds, ended_holds, next_kept, ack_kept, nak_kept, timeout_kept, cut_kept, loss_kept}
+use Rattle.sender.proofs.Kept.{begins_holds, ended_holds, next_kept, ack_kept, nak_kept, timeout_kept, cut_kept}
 use Rattle.sender.proofs.Shape.{Shape, next_shape, ack_shape, nak_shape, timeout_shape, cut_shape}
 use Rattle.initiator.specs.Fields.{sender≔, reached≔, pending≔, taken≔}
 use Rattle.initiator.specs.WriteRecord.{holds_of, begins_of, starts_of}
 use Rattle.initiator.specs.WriteSend.{lifted_of, reached_of, lent_of, held_up, begun_of, kept_of, next_of, counted_of, confirmed_of, ack_of, nak_of, timeout_of, cut_of, loss_of}
 use Rattle.initiator.specs.WriteTake.{ended_of, asked_of, limit_of, burst_taken, write_arrival_of}
 use Rattle.initiator.specs.declared.types.Writer.{Writer}
-use Rattle.initiator.proofs.WriteHeld.{Marks, Held, held, holds_again}
-use Rattle.initiator.proofs.WriteFits.{Fits}
+use Rattle.initiator.proofs.WriteHeld.{held, holds_again}
 use Rattle.initiator.proofs.WriteViews.{Came, came}
 
 abbrev Kept : Left Writer → Type 0

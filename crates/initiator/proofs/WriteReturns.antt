@@ -4,7 +4,7 @@ use mathlib.Core.Bool.{Bool, true, false}
 use mathlib.Core.List.{List}
 use mathlib.Core.Path.{◌≡◌, refl, sym, ap, subst, ◌∙◌}
 use Rattle.status.specs.Pick.{pick}
-use Rattle.status.specs.Answer.{Said, Left, ◌saying◌, refuses}
+use Rattle.status.specs.Answer.{Left, ◌saying◌, refuses}
 use Rattle.frame.specs.Write.{handing}
 use Rattle.sender_steps.specs.Transmit.{frame_of}
 use Rattle.initiator.specs.WriteCount.{Counts}

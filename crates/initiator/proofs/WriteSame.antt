@@ -1,23 +1,20 @@
 -- With no burst waiting, a write's events are the sending port's; and an XFER_RDY that was written for this port is judged as it was written.
-use Prim.Native.Nat.{ℕ, ◌+◌, ◌-◌, ◌^◌, max, ◌≤◌, ◌<◌}
+use Prim.Native.Nat.{ℕ, ◌-◌, ◌^◌, ◌<◌}
 use mathlib.Core.Bool.{Bool, true, false, not, ◌&&◌, false≢true}
 use mathlib.Core.List.{List}
 use mathlib.Core.Logic.{◌⊎◌, inl, inr}
 use mathlib.Core.Path.{◌≡◌, refl, sym, ap, ◌∙◌}
-use native.Mathlib.Omega.{arith}
 use lib.Dec.{eqb}
 use lib.ListN.{length, take, drop}
-use Rattle.status.specs.Entry.{entry_of, confirmable_of}
+use Rattle.status.specs.Entry.{entry_of}
 use Rattle.status.specs.Pick.{pick}
-use Rattle.status.specs.Answer.{Word, Taking, Said, Left, ◌saying◌, refuses, unless}
-use Rattle.status.specs.Result.{Result}
+use Rattle.status.specs.Answer.{Word, Said, Left, ◌saying◌, refuses, unless}
 use Rattle.status.proofs.OpenedCall.{differ, open_entry, two_entry, two_confirmable}
-use Rattle.status.proofs.Leaves.{picked, After, refused_same}
+use Rattle.status.proofs.Leaves.{After, refused_same}
 use Rattle.frame.specs.Format.{XFER-RDY, encode}
 use Rattle.frame.specs.Write.{writable}
 use Rattle.frame.specs.RoundTrip.{InRange}
-use Rattle.frame.specs.Read.{iu_of, iu_length}
-use Rattle.frame.specs.XferRdy.{xfer_rdy_bytes, xfer_rdy_of}
+use Rattle.frame.specs.XferRdy.{xfer_rdy_bytes}
 use Rattle.frame.specs.declared.types.Header.{Header}
 use Rattle.frame.specs.declared.types.XferRdy.{XferRdy}
 use Rattle.frame.proofs.RoundTrip.{xfer_rdy_comes_back}
@@ -30,11 +27,11 @@ use Rattle.sender.specs.Transmit as transmit
 use Rattle.sender.specs.Confirmation as confirmation
 use Rattle.sender_steps.specs.declared.types.Sender.{Sender}
 use Rattle.sender_steps.proofs.Held as core
-use Rattle.sender.proofs.Ended.{Ended, next_leaves}
+use Rattle.sender.proofs.Ended.{Ended}
 use Rattle.initiator.specs.WriteRecord.{holds_of, begins_of, starts_of}
 use Rattle.initiator.specs.WriteCount.{takes}
 use Rattle.initiator.specs.WriteSend.{lifted_of, reached_of, lent_of, held_up, counted_of, begun_of, kept_of, next_of, confirmed_of, ack_of, nak_of, timeout_of, cut_of, loss_of}
-use Rattle.initiator.specs.WriteTake.{asked_of, next_taken, disposition_of, burst_taken, judged_by, xfer_rdy_taken, write_arrival_of}
+use Rattle.initiator.specs.WriteTake.{asked_of, disposition_of, burst_taken, judged_by, xfer_rdy_taken, write_arrival_of}
 use Rattle.initiator.specs.declared.types.XferRdyDisposition.{XferRdyDisposition}
 use Rattle.initiator.specs.declared.types.XferRdyDisposition.TheVariants.{Next, Repeat, Fail}
 use Rattle.initiator.specs.declared.types.Writer.{Writer}

@@ -17,7 +17,7 @@ use Rattle.status.specs.declared.entry.Entry.TheVariants.{Open, Closed}
 use Rattle.status.specs.declared.words.Refusal.TheVariants.{AnswerWithoutFrame}
 use Rattle.status.proofs.Choose.{in_true, in_false}
 use Rattle.status.proofs.Leaves.{picked}
-use Rattle.status.proofs.OpenedCall.{open_entry, open_confirmable, opened, confirmed as confirmable, differ}
+use Rattle.status.proofs.OpenedCall.{open_entry, opened, confirmed as confirmable, differ}
 use Rattle.frame.specs.Write.{write_answer, answered}
 use Rattle.sender.specs.Confirmation as confirmation
 use Rattle.sender.specs.Transmit as transmit

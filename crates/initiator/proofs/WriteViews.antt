@@ -1,10 +1,10 @@
 -- An arrival of any bytes in a write, as plain cases: later layers go by these and see no test any more.
-use Prim.Native.Nat.{ℕ, ◌≤◌}
+use Prim.Native.Nat.{ℕ}
 use mathlib.Core.Bool.{Bool, true, false}
 use mathlib.Core.List.{List}
 use mathlib.Core.Logic.{◌⊎◌, inl, inr}
-use mathlib.Core.Path.{◌≡◌, refl, sym, ap, subst, ◌∙◌}
-use lib.ListN.{get_or, take, drop}
+use mathlib.Core.Path.{◌≡◌, refl, sym, ap, ◌∙◌}
+use lib.ListN.{get_or}
 use Rattle.status.specs.Pick.{pick}
 use Rattle.status.specs.Entry.{entry_of}
 use Rattle.status.specs.Answer.{Taking, Said, Left, ◌saying◌}
@@ -14,7 +14,7 @@ use Rattle.frame.specs.Format.{RESPONSE}
 use Rattle.frame.specs.XferRdy.{xfer_rdy_of}
 use Rattle.frame.specs.Response.{response_iu_of}
 use Rattle.status.specs.declared.answer.Opened.{Opened}
-use Rattle.frame.specs.Read.{header_in, iu_length, iu_of}
+use Rattle.frame.specs.Read.{header_in}
 use Rattle.frame.specs.declared.types.Header.{Header}
 use Rattle.frame.specs.declared.types.XferRdy.{XferRdy}
 use Rattle.arrival.specs.Accept.{class_of, accept_of}

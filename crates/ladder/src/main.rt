@@ -1,10 +1,11 @@
 // The ladder program: standard input to standard output. All that matters is in crate `ladder_print`; what was read and written no contract can say.
 #![tactic(auto)]
 
-ghost use Rattle.std.specs.Prelude.{◌≡◌, length};
+ghost use Rattle.std.specs.Prelude.{◌≡◌, ◌≤◌, length, take};
+ghost use Rattle.std.specs.Io.KnownBytes.{Consumes};
 
 use ladder_print::Printed;
-use libc::{STDIN_FILENO, STDOUT_FILENO};
+use std::io::{ErrorKind, Read, Write};
 
 // One byte more than is taken, so that too long an input is seen.
 fn input_buffer() -> [u8; 65_537]
@@ -20,28 +21,60 @@ fn text_buffer() -> [u8; 1_340_284]
     [0; 1_340_284]
 }
 
+// Reads until the buffer is full or the input ends, a failed read being the end; how many bytes.
+fn read_full<R: Read>(from: &mut R, buf: &mut [u8]) -> usize
+    ensures within { result ≤ length buf.new }
+    ensures bytes { Consumes (R.remaining from.old) (R.remaining from.new) (take result buf.new) }
+{
+    let mut n = 0;
+    for _ in 0..u64::MAX {
+        if n == buf.len() {
+            return n;
+        }
+        match from.read(&mut buf[n..]) {
+            Ok(0) => return n,
+            Ok(more) => n += more,
+            Err(e) => {
+                if e.kind() != ErrorKind::Interrupted {
+                    return n;
+                }
+            }
+        }
+    }
+    n
+}
+
+// A failed write is not reported.
+fn write_whole(to: &mut impl Write, text: &[u8]) {
+    match to.write_all(text) {
+        Ok(()) => {}
+        Err(_) => {}
+    }
+}
+
 // A ladder of any length.
-fn large(input: &[u8]) {
+fn large(input: &[u8], to: &mut impl Write) {
     let mut out = text_buffer();
     let Printed::Text(len) = ladder_print::print_ladder(input, &mut out) else {
         return;
     };
-    io::write_all(STDOUT_FILENO, &out[..len]);
+    write_whole(to, &out[..len]);
 }
 
 // A small ladder takes less time than zeros for the large buffer, so a small one is tried first, unless the input is long. With two calls of `large` the
 // compiler keeps the large buffer out of this frame.
-fn main() {
+fn main(rt: HostRuntime) {
+    let mut stdout = rt.stdout();
     let mut input = input_buffer();
-    let n = io::read_full(STDIN_FILENO, &mut input);
+    let n = read_full(&mut rt.stdin(), &mut input);
     if 3_072 < n {
-        large(&input[..n]);
+        large(&input[..n], &mut stdout);
         return;
     }
     let mut out = [0; 8_192];
     let Printed::Text(len) = ladder_print::print_if_room(&input[..n], &mut out) else {
-        large(&input[..n]);
+        large(&input[..n], &mut stdout);
         return;
     };
-    io::write_all(STDOUT_FILENO, &out[..len]);
+    write_whole(&mut stdout, &out[..len]);
 }

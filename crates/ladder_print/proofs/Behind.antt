@@ -1,17 +1,16 @@
 -- Text put down behind text, at the front of a buffer.
-use Prim.Native.Nat.{ℕ, zero, suc, ◌+◌, ◌-◌, ◌≤◌, ◌<◌}
+use Prim.Native.Nat.{ℕ, ◌+◌, ◌≤◌}
 use mathlib.Core.Bool.{Bool, true}
-use mathlib.Core.List.{List, [], ◌∷◌, ◌++◌, append-nil}
+use mathlib.Core.List.{List, [], ◌++◌, append-nil}
 use mathlib.Core.Path.{◌≡◌, refl, sym, ap, subst, ◌∙◌}
 use native.Mathlib.Nat.{zero-add}
 use native.Mathlib.Omega.{arith}
-use lib.ListN.{length, take, drop, replicate, length-append, drop_of_length-le}
+use lib.ListN.{length, take, drop, length-append, drop_of_length-le}
 use lib.Seq.{take_at}
 use borrow.Author.Tests.{le-leb}
 use Rattle.ladder_text.specs.Place.{placed, Puts, Placed, has_room}
 use Rattle.ladder_text.specs.declared.types.Put.{Put}
 use Rattle.ladder_text.specs.declared.types.Put.TheVariants.{At, NoRoom}
-use Rattle.ladder_text.proofs.Choose.{in_true}
 use Rattle.ladder_text.specs.Pick as text
 use Rattle.ladder_text.proofs.Place.{placed_length, placed_more}
 use Rattle.ladder_print.specs.Put.{behind_of}

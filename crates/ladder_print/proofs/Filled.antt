@@ -1,19 +1,17 @@
 -- The buffers of a run: the bytes sent, the fates' numbers.
 use Prim.Native.Nat.{ℕ, zero, suc, ◌+◌, ◌-◌, ◌%◌, ◌≤◌, ◌<◌}
 use mathlib.Core.List.{List, [], ◌∷◌, ◌++◌, map, append_assoc, append-nil}
-use mathlib.Core.Bool.{Bool, true}
 use mathlib.Core.Path.{◌≡◌, refl, sym, ap, ◌∙◌}
 use native.Mathlib.Nat.{sub-zero, zero-add}
 use native.Mathlib.Numerals.{add-one}
 use native.Mathlib.Omega.{arith}
 use borrow.Author.Tests.{lt-ltb}
 use lib.ListN.{length, take, drop, set, replicate, length-append, length-replicate, replicate-append-replicate}
-use lib.Dec.{ltb}
 use Rattle.ladder_text.specs.Pick as text
 use Rattle.ladder_text.specs.Text.{LF, before}
 use Rattle.ladder_text.specs.Words.{fate_number, fate_of}
 use Rattle.ladder_text.specs.RunFile.{fate_or, fates_of, fates_at, next_fate}
-use Rattle.ladder_text.specs.Place.{placed, Puts}
+use Rattle.ladder_text.specs.Place.{placed}
 use Rattle.ladder_text.specs.declared.types.Fate.{Fate}
 use Rattle.ladder_text.specs.declared.types.NextFate.{NextFate}
 use Rattle.ladder_text.proofs.FileSteps.{lines_at, lines_end}

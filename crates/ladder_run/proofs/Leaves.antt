@@ -6,7 +6,7 @@ use mathlib.Core.Path.{◌≡◌, refl, sym, ap, ◌∙◌}
 use native.Mathlib.Nat.{sub-zero}
 use native.Mathlib.Omega.{arith}
 use lib.ListN.{length, take}
-use lib.Dec.{eqb, leb}
+use lib.Dec.{leb}
 use borrow.Author.Tests.{eq-eqb, ne_eqb, leb-true, ltb-true}
 use Rattle.status.specs.Answer.{says}
 use Rattle.status.specs.Result.{Result}
@@ -16,13 +16,12 @@ use Rattle.frame.specs.declared.types.Parsed.{Parsed}
 use Rattle.frame.proofs.RoundTrip.{accepted}
 use Rattle.link.specs.Ports.{Called, lending}
 use Rattle.ladder_text.specs.declared.types.Fate.{Fate}
-use Rattle.ladder_text.specs.declared.types.Receipt.{Receipt}
 use Rattle.ladder_text.specs.declared.types.Receipt.TheVariants.{Nothing}
 use Rattle.ladder_run.specs.Ends.{asked, arrived, ask_of, arrive_of, past_of}
 use Rattle.ladder_run.specs.Fates.{fate_of, whole}
-use Rattle.ladder_run.specs.Row.{area, handed, receipt_of, shown_of, Meeting, arrives, met_of, met_by, silent, COUNT-MOST, open_of, Sent, out_by, nothing_of, row_of, sent_of, asked_by, out_of}
+use Rattle.ladder_run.specs.Row.{area, handed, receipt_of, shown_of, arrives, met_of, met_by, silent, COUNT-MOST, open_of, Sent, out_by, nothing_of, row_of, sent_of, asked_by, out_of}
 use Rattle.ladder_run.specs.Round.{closed_of}
-use Rattle.ladder_run.specs.Line.{NextLine, next_line_by, lastly, begins, firstly, line_of}
+use Rattle.ladder_run.specs.Line.{next_line_by, lastly, begins, firstly, line_of}
 use Rattle.ladder_text.specs.declared.types.Row.{Row}
 use Rattle.ladder_run.specs.declared.types.Sending.{Sending}
 use Rattle.ladder_run.specs.declared.types.Receiving.{Receiving}

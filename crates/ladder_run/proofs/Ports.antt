@@ -1,9 +1,9 @@
 -- A port of one direction, called through its kind.
 use Prim.Native.Nat.{ℕ}
 use mathlib.Core.List.{List}
-use mathlib.Core.Path.{◌≡◌, refl, sym, ap, ◌∙◌}
+use mathlib.Core.Path.{◌≡◌, sym, ap, ◌∙◌}
 use Rattle.status.specs.Answer.{Left}
-use Rattle.link.specs.Ports.{Called, lending, Signal}
+use Rattle.link.specs.Ports.{lending, Signal}
 use Rattle.ladder_run.specs.Ends.{onto, called, ask_of, signalled_of, arrive_of}
 use Rattle.ladder_run.specs.declared.types.Sending.{Sending}
 use Rattle.ladder_run.specs.declared.types.Receiving.{Receiving}

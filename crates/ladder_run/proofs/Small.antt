@@ -19,7 +19,6 @@ use Rattle.ladder_text.specs.Laws.{ReceiptFits}
 use Rattle.ladder_text.proofs.Lengths.{digits_most, fate_most, outcome_most}
 use Rattle.ladder_text.specs.declared.types.Fate.{Fate}
 use Rattle.ladder_text.specs.declared.types.Fate.TheVariants.{Ok, Noack, Bad, Nonak, Lost}
-use Rattle.ladder_text.specs.declared.types.Row.{Row}
 use Rattle.ladder_text.specs.declared.types.Receipt.{Receipt}
 use Rattle.ladder_run.specs.Ends.{ask_of, arrive_of, past_of}
 use Rattle.ladder_run.specs.Fates.{fate_of}

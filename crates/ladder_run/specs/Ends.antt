@@ -2,7 +2,7 @@
 use Rattle.std.specs.Prelude.{ℕ, List}
 use Rattle.status.specs.Answer.{says, Left, ◌saying◌}
 use Rattle.transfer.specs.Limits.{past}
-use Rattle.link.specs.Ports.{Called, lending, Signal}
+use Rattle.link.specs.Ports.{Called, Signal}
 use Rattle.link.specs.Reading.{read_ports}
 use Rattle.link.specs.Writing.{write_ports}
 use Rattle.ladder_run.specs.declared.types.Sending.{Sending}

@@ -1,5 +1,5 @@
 -- "then answers come in order, then a timeout if any is missing".
-use Rattle.std.specs.Prelude.{ℕ, zero, suc, ◌+◌, ◌-◌, List, Bool, true, false}
+use Rattle.std.specs.Prelude.{ℕ, zero, suc, ◌+◌, ◌-◌, List, true, false}
 use Rattle.status.specs.Pick.{pick}
 use Rattle.status.specs.Report as status
 use Rattle.status.specs.Answer.{Said, view, Left}

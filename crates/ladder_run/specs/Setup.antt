@@ -1,5 +1,5 @@
 -- A ladder is set up at both ends; "a write is one burst, its XFER_RDY taken and acknowledged".
-use Rattle.std.specs.Prelude.{ℕ, Bool, true, false, take, leb}
+use Rattle.std.specs.Prelude.{ℕ, Bool, true, false, leb}
 use Rattle.status.specs.Pick.{pick}
 use Rattle.status.specs.Number.{refusal_number}
 use Rattle.status.specs.Result.{Result}

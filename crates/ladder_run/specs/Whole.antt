@@ -1,9 +1,8 @@
 -- A whole ladder: line after line, rows until the verdict.
 use Rattle.std.specs.Prelude.{ℕ, zero, suc, ◌+◌, List, [], ◌∷◌}
 use Rattle.ladder_text.specs.declared.types.Row.{Row}
-use Rattle.ladder_text.specs.declared.types.Verdict.{Verdict}
 use Rattle.ladder_run.specs.Row.{ROWS-MOST}
-use Rattle.ladder_run.specs.Line.{NextLine, line_of}
+use Rattle.ladder_run.specs.Line.{line_of}
 use Rattle.ladder_run.specs.declared.types.Ladder.{Ladder}
 use Rattle.ladder_run.specs.declared.types.Line.{Line}
 use Rattle.ladder_run.specs.declared.types.Line.TheVariants as line

@@ -7,9 +7,8 @@ use native.Mathlib.Numerals.{add-one}
 use native.Mathlib.Omega.{arith}
 use lib.ListN.{length, get_or, take, drop, drop_of_length-le, length-take, length-drop}
 use borrow.Author.Tests.{eq-eqb, ne_eqb}
-use lib.Seq.{drop-cons, drop-drop, drop-length, take-length, take-nil}
+use lib.Seq.{drop-cons, drop-drop, drop-length, take-nil}
 use lib.Dec.{eqb}
-use Rattle.bytes.specs.Bytes.{index_of, index_after, slice}
 use Rattle.ladder_text.specs.Pick.{pick}
 use Rattle.ladder_text.specs.Text.{LF, TAB, glue, lines, fields, before, behind}
 use Rattle.ladder_text.specs.Lent.{field_start}
@@ -36,14 +35,18 @@ drop_before c (x ∷ xs) = go (eqb x c) (drop_before c xs)
 pub short_before : (c : ℕ) (b : List ℕ) → length (before c b) ≤ length b
 short_before c b = omega (arith, ap length (take_before c b), length-take (length (before c b)) b)
 
-pub index_before : (c : ℕ) (b : List ℕ) → index_of c b ≡ length (before c b)
-unfolding pick index_of index_after
-index_before c [] = refl
-index_before c (x ∷ xs) = go (eqb x c) (index_before c xs)
-  where
-    go : (t : Bool) → index_of c xs ≡ length (before c xs) → index_after t (index_of c xs) ≡ length (pick t [] (x ∷ before c xs))
-    go true e = refl
-    go false e = ap suc e
+-- the search for the first c from i on: at its end, at a c, and past another byte
+pub found_end : (c i : ℕ) (s : List ℕ) → length s ≤ i → i + length (before c (drop i s)) ≡ i
+found_end c i s p = rw (drop_of_length-le s p) (omega arith)
+
+module _ (c i : ℕ) (s : List ℕ) (p : i < length s) where
+  pub found_here : get_or s i 0 ≡ c → i + length (before c (drop i s)) ≡ i
+  unfolding pick
+  found_here e = rw (drop-cons s i 0 p, eq-eqb (get_or s i 0) c e) (omega arith)
+
+  pub found_later : (get_or s i 0 ≡ c → ⊥) → i + length (before c (drop i s)) ≡ (i + 1) + length (before c (drop (i + 1) s))
+  unfolding pick
+  found_later e = rw (drop-cons s i 0 p, ne_eqb (get_or s i 0) c e, add-one i) (omega arith)
 
 -- the part that starts at `at`: none past the end, else as many bytes as the search for c passed
 pub none_beyond : (c at : ℕ) (s : List ℕ) → length s ≤ at → [] ≡ before c (drop at s)
@@ -52,13 +55,10 @@ none_beyond c at s p = ap (before c) (sym (drop_of_length-le s p))
 pub part_none : (c at : ℕ) (s : List ℕ) → length s ≤ at → take (length s - length s) (drop (length s) s) ≡ before c (drop at s)
 part_none c at s p = rw (drop-length s, take-nil) (none_beyond c at s p)
 
-pub part_long : (c at n : ℕ) (s : List ℕ) → n ≡ index_of c (slice at (length s) s) → take n (drop at s) ≡ before c (drop at s)
-unfolding slice
-part_long c at n s e =
-    rw (e ∙ ap (λ (l : List ℕ). index_of c (drop at l)) (take-length s) ∙ index_before c (drop at s)) (take_before c (drop at s))
-
-pub part_found : (c at r : ℕ) (s : List ℕ) → r ≡ at + index_of c (slice at (length s) s) → take (r - at) (drop at s) ≡ before c (drop at s)
-part_found c at r s e = part_long c at (r - at) s (omega arith)
+pub part_found : (c at r : ℕ) (s : List ℕ) → r ≡ at + length (before c (drop at s)) → take (r - at) (drop at s) ≡ before c (drop at s)
+part_found c at r s e =
+    let n : r - at ≡ length (before c (drop at s)) = omega arith in
+    rw n (take_before c (drop at s))
 
 -- the bytes from `at` on are no fewer than the part q there
 pub within : (c at : ℕ) (s q : List ℕ) → at ≤ length s → q ≡ before c (drop at s) → at + length q ≤ length s

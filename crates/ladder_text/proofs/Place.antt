@@ -4,9 +4,9 @@ use mathlib.Core.List.{List, [], ◌∷◌, ◌++◌, append_assoc}
 use mathlib.Core.Path.{◌≡◌, refl, sym, ap, ◌∙◌}
 use native.Mathlib.Numerals.{add-one}
 use native.Mathlib.Omega.{arith}
-use borrow.Rule.Slice.PartMut.{put_mid, mid_of, mid_len}
-use lib.ListN.{length, take, drop, set, length-append, length-take, length-drop, take-append-drop}
-use lib.Seq.{length-take-le, take-length, take_at, drop-append-le, drop-append-add, drop-drop, set_split}
+use borrow.Rule.Slice.PartMut.{put_mid, Post-is}
+use lib.ListN.{length, take, drop, set, length-append, length-take, length-drop}
+use lib.Seq.{length-take-le, take_at, drop-append-add, drop-drop, set_split}
 use Rattle.ladder_text.specs.Place.{placed}
 
 pub placed_length : (d : List ℕ) (i : ℕ) (t : List ℕ) → i + length t ≤ length d → length (placed d i t) ≡ length d
@@ -33,12 +33,6 @@ unfolding placed
 placed_byte d i x p = rw add-one (set_split d i x p)
 
 -- what a copy of t into the part of d from i on leaves in d
-pub copied : (d t : List ℕ) (i : ℕ) → i + length t ≤ length d → put_mid i (length d - i) d (take (length t) t ++ drop (length t) (mid_of i (length d - i) d)) ≡ placed d i t
+pub copied : (d t : List ℕ) (i : ℕ) → put_mid i (i + length t - i) d t ≡ placed d i t
 unfolding placed
-copied d t i fits =
-    let n = length t in
-    let m = length d - i in
-    let l = drop i d in
-    let room : n ≤ length (take m l) = omega (arith, mid_len i (length d) d (omega arith)) in
-    let rest : drop n (take m l) ++ drop m l ≡ drop (i + n) d = sym (drop-append-le n (take m l) (drop m l) room) ∙ ap (λ (x : List ℕ). drop n x) (take-append-drop m l) ∙ drop-drop n i d in
-    rw (take-length t, append_assoc t, rest) refl
+copied d t i = ap (λ (l : List ℕ). take i d ++ (t ++ l)) (Post-is i (i + length t) d (omega arith))

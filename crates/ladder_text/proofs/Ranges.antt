@@ -1,5 +1,4 @@
 -- The numbers in a value that the code holds are numbers of 32 bits.
-use Prim.Native.Nat.{ℕ, ◌≤◌}
 use mathlib.Core.List.{List}
 use native.Mathlib.Omega.{arith}
 use mir.Val.{Val}

@@ -1,7 +1,23 @@
 // Lines and fields.
-ghost use Rattle.std.specs.Prelude.{◌≡◌, length};
-ghost use Rattle.ladder_text.specs.Text.{fields};
+ghost use Rattle.std.specs.Prelude.{◌≡◌, ◌+◌, ◌≤◌, length, drop};
+ghost use Rattle.ladder_text.specs.Text.{fields, before};
 ghost use Rattle.ladder_text.specs.Lent.{Shows, part_in, line_in, field_start, field_in};
+
+// The place of the first c from `at` on; the end where there is none.
+fn find(s: &[u8], at: usize, c: u8) -> usize
+    requires { at ≤ length s.now }
+    ensures within { result ≤ length s.now }
+    ensures place { result ≡ at + length (before c (drop at s.now)) }
+{
+    let mut i = at;
+    while i < s.len() {
+        if s[i] == c {
+            return i;
+        }
+        i += 1;
+    }
+    i
+}
 
 // The bytes of s from `at`, or from the end where that is beyond, to the first c or to the end.
 fn part(s: &[u8], at: usize, c: u8) -> &[u8]
@@ -11,7 +27,7 @@ fn part(s: &[u8], at: usize, c: u8) -> &[u8]
     if n <= at {
         return &s[n..n];
     }
-    let e = bytes::scan::find(s, at, n, c);
+    let e = find(s, at, c);
     &s[at..e]
 }
 

@@ -12,7 +12,7 @@ use crate::types::{
 pub(crate) fn is(s: &[u8], w: &[u8]) -> bool
     ensures { result ≡ same s.now w.now }
 {
-    check::same(s, w)
+    s == w
 }
 
 // Prints the word w at `at`; answers the place behind it.
@@ -20,7 +20,9 @@ pub(crate) fn print_word(out: &mut [u8], at: usize, w: &[u8]) -> usize
     requires { at + length w.now ≤ length out.old }
     ensures { Puts out.old at w.now result out.new }
 {
-    at + bytes::copy(w, &mut out[at..])
+    let end = at + w.len();
+    out[at..end].copy_from_slice(w);
+    end
 }
 
 // The fate that s names, or that it does not fit.

@@ -1,6 +1,6 @@
 -- The first answer reaches the sending port or is lost, while nothing is reported.
-use Prim.Native.Nat.{ℕ, zero, suc, ◌+◌, ◌-◌, ◌*◌, ◌≤◌, ◌<◌}
-use mathlib.Core.List.{List, [], ◌∷◌, ◌++◌}
+use Prim.Native.Nat.{ℕ, suc, ◌+◌, ◌-◌, ◌*◌, ◌≤◌, ◌<◌}
+use mathlib.Core.List.{List, [], ◌∷◌}
 use mathlib.Core.Bool.{Bool, true, false, false≢true, not}
 use mathlib.Core.Logic.{◌⊎◌, inl, inr, ⊎_elim}
 use mathlib.Core.Path.{◌≡◌, refl, sym, ap, subst, ◌∙◌}
@@ -18,13 +18,12 @@ use Rattle.status.specs.Answer.{Said, Left}
 use Rattle.link.specs.Ports.{Signal, Ports}
 use Rattle.link.specs.Tally.{Confirmation, confirmation_fault}
 use Rattle.link.specs.World.{World, Report, Event, noted, confirms, loses_confirmation, step}
-use Rattle.link.proofs.Grid.{at_most, at_mono, inside_at}
-use Rattle.link.proofs.Setting.{Setting, place, within, enough, piece, sized}
+use Rattle.link.proofs.Grid.{at_most, inside_at}
+use Rattle.link.proofs.Setting.{Setting, place, within, piece, sized}
 use Rattle.link.proofs.Simulates.{Simulates}
 use Rattle.link.proofs.Flight.{Flight, landed, AllAck, SomeNak}
-use Rattle.link.proofs.Invariant.{Stored, Marked, Linked, Pending, Counted, Standing, InStep, Ported, Live, Done, Reported, Inv, ported_as, live, done}
+use Rattle.link.proofs.Invariant.{Standing, InStep, Ported, Live, Reported, Inv, ported_as, live, done}
 use Rattle.link.proofs.Numbers.{j_most, within_bound, retries_most}
-use Rattle.link.proofs.Asking.{outcome}
 use Rattle.link.proofs.Retrying.{emptied, retried_keeps}
 
 -- a list of no length

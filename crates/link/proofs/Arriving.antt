@@ -1,35 +1,33 @@
 -- The first frame arrives whole, damaged or not at all, while nothing is reported.
-use Prim.Native.Nat.{ℕ, zero, suc, ◌+◌, ◌-◌, max, ◌≤◌, ◌<◌}
+use Prim.Native.Nat.{ℕ, suc, ◌+◌, ◌-◌, max, ◌≤◌, ◌<◌}
 use mathlib.Core.List.{List, [], ◌∷◌, ◌++◌}
 use mathlib.Core.Bool.{Bool, true, false, false≢true}
 use mathlib.Core.Logic.{◌⊎◌, inl, inr, ⊎_elim}
 use mathlib.Core.Path.{◌≡◌, refl, sym, ap, subst, ◌∙◌}
 use native.Mathlib.Decide.{dec_lt}
 use native.Mathlib.Omega.{arith}
-use lib.ListN.{length, get_or, take, drop, length-append}
+use lib.ListN.{length, get_or, drop, length-append}
 use lib.Seq.{get_or-take, get_or-drop}
 use Rattle.transfer.specs.declared.Transfer.{Transfer}
-use Rattle.frame.specs.Format.{encode}
 use Rattle.frame.specs.Write.{placed}
 use Rattle.receiver_steps.specs.Record.{holds_of, lent_of}
-use Rattle.status.specs.Answer.{Said, Left}
+use Rattle.status.specs.Answer.{Left}
 use Rattle.receiver_steps.specs.DataFrame.{waiting_of, stored_of, storing}
 use Rattle.receiver.specs.DataFrame.{arrival_of}
 use Rattle.receiver_steps.specs.declared.types.Receiver.{Receiver}
 use Rattle.receiver_steps.proofs.Held.{Held, held, lent_again}
-use Rattle.receiver_steps.proofs.Judged as judged
 use Rattle.receiver_steps.proofs.Buffer.{put_down, placed_length}
 use Rattle.receiver.proofs.Kept.{waiting_holds, stored_holds}
 use Rattle.receiver.proofs.Views.{Kept, never_fails, reaches}
 use Rattle.link.specs.Ports.{Ports}
 use Rattle.link.specs.Tally.{Confirmation}
 use Rattle.link.specs.World.{World, Event, arrives_whole, arrives_damaged, loses_frame, step}
-use Rattle.link.proofs.Grid.{at_next, at_below, room_some, room_fits}
+use Rattle.link.proofs.Grid.{at_next, room_some, room_fits}
 use Rattle.link.proofs.Setting.{Setting, Takes, place, within, space, header, data_of, low, begin_least, data_length, in_range, can_write, piece, sized}
 use Rattle.link.proofs.Simulates.{Simulates, Addressed}
-use Rattle.link.proofs.Flight.{Flight, uncons, ordered, AllAck, SomeNak, ack_joins, nak_stays, nak_joins}
+use Rattle.link.proofs.Flight.{Flight, uncons, ordered, ack_joins, nak_stays, nak_joins}
 use Rattle.link.proofs.Placed.{placed_under, placed_in, placed_over}
-use Rattle.link.proofs.Invariant.{Stored, Linked, Counted, Standing, InStep, Dirty, Ported, Live, Inv, live}
+use Rattle.link.proofs.Invariant.{Stored, Linked, Counted, Standing, InStep, Live, Inv, live}
 
 -- the two orders of two numbers
 pub by_lt : (a b : ℕ) → (a < b) ⊎ (b ≤ a)

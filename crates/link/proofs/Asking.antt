@@ -1,11 +1,10 @@
 -- A frame asked for, while nothing is reported.
-use Prim.Native.Nat.{ℕ, zero, suc, ◌+◌, ◌-◌, ◌*◌, min, ◌≤◌, ◌<◌}
+use Prim.Native.Nat.{ℕ, suc, ◌+◌, ◌-◌, min, ◌≤◌}
 use mathlib.Core.List.{List, [], ◌∷◌, ◌++◌}
-use mathlib.Core.Bool.{Bool, true, false}
-use mathlib.Core.Logic.{◌⊎◌, inl, inr}
+use mathlib.Core.Bool.{true, false}
+use mathlib.Core.Logic.{inl}
 use mathlib.Core.Path.{◌≡◌, refl, sym, ap, subst, ◌∙◌}
 use native.Mathlib.Omega.{arith}
-use native.Mathlib.Numerals.{add-one}
 use lib.ListN.{length, take, length-append}
 use Rattle.frame.specs.Write.{over, handing}
 use Rattle.frame.proofs.Hands.{over_front}
@@ -22,10 +21,10 @@ use Rattle.sender.proofs.Views.{Asked, asked}
 use Rattle.link.specs.Ports.{Called, Ports}
 use Rattle.link.specs.World.{World, Event, asks, step}
 use Rattle.link.proofs.Grid.{inside_at, inside_mono, at_next}
-use Rattle.link.proofs.Setting.{Setting, Sends, place, within, piece, frame_is, sized}
+use Rattle.link.proofs.Setting.{Setting, place, within, piece, frame_is, sized}
 use Rattle.link.proofs.Simulates.{Simulates}
 use Rattle.link.proofs.Flight.{Flight, joins, ordered}
-use Rattle.link.proofs.Invariant.{Stored, Marked, Linked, Pending, Counted, Standing, Ported, Live, Inv, ported_as, live}
+use Rattle.link.proofs.Invariant.{Marked, Ported, Live, Inv, ported_as, live}
 use Rattle.link.proofs.Numbers.{few, j_most, retries_most}
 
 -- a call's outcome with its answer and buffer as they are known to be

@@ -1,10 +1,9 @@
 -- A refusal leaves record and buffer, a failure ends the record (`demand_1`): each port's own law, over the list of calls.
 use Prim.Native.Nat.{ℕ}
 use mathlib.Core.List.{List, []}
-use mathlib.Core.Bool.{true}
 use mathlib.Core.Path.{◌≡◌, refl, sym, ap, subst, ◌∙◌}
 use lib.ListN.{length}
-use Rattle.status.specs.Answer.{Said, view, Left, ◌saying◌, refuses}
+use Rattle.status.specs.Answer.{Said, view, Left, refuses}
 use Rattle.status.specs.Report.{Report}
 use Rattle.status.proofs.Leaves.{Leaves, picked, refusal_same, failure_ends}
 use Rattle.status.proofs.OpenedCall.{differ}

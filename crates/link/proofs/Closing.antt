@@ -1,13 +1,11 @@
 -- A timeout or a cut, while nothing is reported.
-use Prim.Native.Nat.{ℕ, zero, suc, ◌+◌, ◌≤◌, ◌<◌}
-use mathlib.Core.List.{List, [], ◌∷◌}
-use mathlib.Core.Bool.{Bool, true, false, false≢true}
+use Prim.Native.Nat.{ℕ, ◌+◌, ◌≤◌, ◌<◌}
+use mathlib.Core.List.{List, []}
+use mathlib.Core.Bool.{Bool, true, false}
 use mathlib.Core.Logic.{◌⊎◌, inl, inr}
 use mathlib.Core.Path.{◌≡◌, refl, sym, ap, subst, ◌∙◌}
 use native.Mathlib.Decide.{ℕ_discrete}
 use native.Mathlib.Omega.{arith}
-use lib.Dec.{eqb}
-use lib.ListN.{length}
 use borrow.Author.Tests.{ne_eqb}
 use Rattle.status.specs.Pick.{pick}
 use Rattle.sender_steps.specs.Confirmation.{cause_of}
@@ -17,12 +15,12 @@ use Rattle.sender.proofs.Views.{Retried, timed_out_lem, cut_off, timeout_4, cut_
 use Rattle.status.specs.Answer.{Said, Left}
 use Rattle.link.specs.Ports.{Signal, Ports}
 use Rattle.link.specs.Calls.{signalled}
-use Rattle.link.specs.Tally.{Confirmation, cut_fault, timeout_fault}
-use Rattle.link.specs.World.{World, Report, Event, noted, closes, step}
+use Rattle.link.specs.Tally.{cut_fault, timeout_fault}
+use Rattle.link.specs.World.{World, Event, noted, closes, step}
 use Rattle.link.proofs.Setting.{Setting, piece}
 use Rattle.link.proofs.Simulates.{Simulates}
 use Rattle.link.proofs.Flight.{Flight, SomeNak}
-use Rattle.link.proofs.Invariant.{Linked, Counted, Standing, InStep, Live, Inv, live}
+use Rattle.link.proofs.Invariant.{Standing, InStep, Live, Inv, live}
 use Rattle.link.proofs.Answering.{empty}
 use Rattle.link.proofs.Retrying.{emptied, retried_keeps}
 

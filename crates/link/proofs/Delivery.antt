@@ -1,23 +1,21 @@
 -- The delivery claim for any pair of ports that simulate the two cores: the invariant is kept by every allowed event, and gives the claim.
 use Prim.Native.Nat.{ℕ, ◌+◌, ◌-◌, ◌≤◌, ◌<◌}
 use mathlib.Core.List.{List, [], ◌∷◌}
-use mathlib.Core.Bool.{true, false}
 use mathlib.Core.Logic.{◌⊎◌, inl, inr, ⊎_elim}
 use mathlib.Core.Path.{◌≡◌, refl, sym, ap, ap₂, subst, ◌∙◌}
 use native.Mathlib.Omega.{arith}
 use lib.ListN.{length, get_or}
 use Rattle.sender_steps.specs.Transmit.{frame_of}
-use Rattle.sender.specs.Transmit.{next_of}
 use Rattle.sender_steps.specs.declared.types.Sender.{Sender}
 use Rattle.sender_steps.proofs.Held.{held}
 use Rattle.sender.proofs.Views.{Asked, asked}
 use Rattle.receiver_steps.proofs.Held as receiver
 use Rattle.status.specs.Answer.{Word, Said, Left}
 use Rattle.status.proofs.OpenedCall.{differ}
-use Rattle.link.specs.Ports.{Signal, Ports}
+use Rattle.link.specs.Ports.{Ports}
 use Rattle.link.specs.World.{World, Report, Event, step, run, Allows, Allowed}
 use Rattle.link.specs.Delivers.{BurstParameters, Concluded, Delivered, LinkFailed, Delivers}
-use Rattle.link.proofs.Setting.{Setting, limits}
+use Rattle.link.proofs.Setting.{Setting}
 use Rattle.link.proofs.Simulates.{Simulates}
 use Rattle.link.proofs.Others.{idle_same}
 use Rattle.link.proofs.Late.{late_keeps}

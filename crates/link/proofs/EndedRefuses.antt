@@ -11,7 +11,6 @@ use Rattle.sender_steps.specs.Transmit.{frame_of}
 use Rattle.sender_steps.specs.declared.types.Sender.{Sender}
 use Rattle.receiver_steps.specs.DataFrame.{storing}
 use Rattle.receiver_steps.specs.declared.types.Receiver.{Receiver}
-use Rattle.sender.specs.Transmit.{next_of}
 use Rattle.sender.proofs.Ended as sender
 use Rattle.receiver.proofs.Views as receiver
 use Rattle.initiator.specs.WriteSend.{begun_of}

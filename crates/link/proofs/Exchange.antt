@@ -1,8 +1,8 @@
 -- What the exchange of an XFER_RDY leaves: the start of a write burst is live.
-use Prim.Native.Nat.{ℕ, ◌+◌, ◌-◌, ◌*◌, ◌^◌, ◌≤◌, ◌<◌}
-use mathlib.Core.List.{List, []}
+use Prim.Native.Nat.{ℕ, ◌+◌, ◌-◌, ◌^◌, ◌≤◌, ◌<◌}
+use mathlib.Core.List.{List}
 use mathlib.Core.Bool.{Bool, true, false, false≢true}
-use mathlib.Core.Logic.{◌⊎◌, inl, inr}
+use mathlib.Core.Logic.{inl, inr}
 use mathlib.Core.Path.{◌≡◌, refl, sym, ap, subst, subst₂, ◌∙◌}
 use native.Mathlib.Nat.{zero-mul}
 use native.Mathlib.Omega.{arith}
@@ -10,44 +10,42 @@ use lib.Dec.{eqb}
 use lib.ListN.{length, take}
 use borrow.Author.Tests.{lt-ltb}
 use Rattle.status.specs.Pick.{pick}
-use Rattle.status.specs.Answer.{Word, Said, Left, ◌saying◌}
+use Rattle.status.specs.Answer.{Word, Said, Left}
 use Rattle.transfer.specs.declared.Transfer.{Transfer}
 use Rattle.frame.specs.Format.{XFER-RDY, encode}
-use Rattle.frame.specs.Write.{over, handing}
+use Rattle.frame.specs.Write.{over}
 use Rattle.frame.specs.XferRdy.{xfer_rdy_bytes}
 use Rattle.frame.specs.RoundTrip.{InRange}
 use Rattle.frame.specs.declared.types.Header.{Header}
 use Rattle.frame.specs.declared.types.XferRdy.{XferRdy}
 use Rattle.receiver_steps.proofs.Held as receiver
-use Rattle.sender_steps.specs.declared.types.Burst.{Burst}
 use Rattle.initiator.specs.WriteRecord.{holds_of, begins_of}
 use Rattle.initiator.specs.WriteCount.{takes}
-use Rattle.initiator.specs.WriteTake.{write_arrival_of, asked_of, limit_of}
+use Rattle.initiator.specs.WriteTake.{write_arrival_of, limit_of}
 use Rattle.initiator.specs.declared.types.Writer.{Writer}
 use Rattle.initiator.proofs.WriteHeld.{held}
 use Rattle.initiator.proofs.WriteFits.{Fits}
 use Rattle.initiator.proofs.WriteSame.{Asks, xfer_rdy_starts, xfer_rdy_fits}
 use Rattle.initiator.proofs.WriteKept.{begins_well}
-use Rattle.target.specs.Record.{AGAIN, UNANSWERED}
+use Rattle.target.specs.Record.{AGAIN}
 use Rattle.target.specs.Transmit.{next_of, issued_of, xfer_rdy_header, xfer_rdy_iu, frame_of}
 use Rattle.target.specs.Confirmation.{ack_of, acknowledged_of}
 use Rattle.target.specs.declared.types.Target.{Target}
 use Rattle.target.proofs.Held as target
-use Rattle.target.proofs.Issue.{issued_order, burst_transfer, can_write, iu_length_lem}
+use Rattle.target.proofs.Issue.{issued_order, burst_transfer, can_write}
 use Rattle.target.proofs.Views.{HandedOut, handed_out, tag_most, Acked, acknowledged}
 use Rattle.target.proofs.Kept.{acknowledged_holds}
 use Rattle.link.specs.World.{World}
 use Rattle.link.specs.Delivers.{fresh}
 use Rattle.link.specs.Claim.{Alike, Always, xfer_rdy_sent}
 use Rattle.link.specs.Writing.{write_ports}
-use Rattle.link.proofs.Grid.{at_first}
-use Rattle.link.proofs.Setting.{Setting, sized}
+use Rattle.link.proofs.Setting.{Setting}
 use Rattle.link.proofs.Flight.{Flight}
 use Rattle.link.proofs.Invariant.{Standing, Live, live}
 use Rattle.frame.proofs.Hands.{over_front}
 use Rattle.link.proofs.Delivery.{delivers}
 use Rattle.link.proofs.Filled.{Fills, fills}
-use Rattle.link.proofs.WriteSimulates.{Ready, WritesAs, TakesAs, write_simulates, write_sends, write_takes, write_filled}
+use Rattle.link.proofs.WriteSimulates.{write_simulates, write_sends, write_takes, write_filled}
 
 module _ (x : Writer) (y : Target) (out d b : List ℕ) (n : ℕ) (hx : holds_of x ≡ true) (ox : x.sender.ended ≡ false) (zx : x.sender.unanswered ≡ 0)
     (al : Alike x.sender.transfer y.receiver.transfer) (on : 1 ≤ x.sender.transfer.limit) (dl : length d ≡ x.sender.transfer.count) (bl : length b ≡ x.sender.transfer.count)

@@ -1,11 +1,10 @@
 -- The frames on the way, as numbers: those from k up to j, of which only the first can have CDP one; and the answers on the way.
-use Prim.Native.Nat.{ℕ, zero, suc, ◌+◌, ◌≤◌}
+use Prim.Native.Nat.{ℕ, suc, ◌≤◌}
 use mathlib.Core.List.{List, [], ◌∷◌, ◌++◌}
-use mathlib.Core.Bool.{Bool, true, false}
+use mathlib.Core.Bool.{Bool, false}
 use mathlib.Core.Path.{◌≡◌, refl}
 use native.Mathlib.Omega.{arith}
 use native.Mathlib.Nat.{le_refl}
-use lib.ListN.{length}
 use Rattle.link.specs.Tally.{Confirmation}
 
 -- from (c, k), the first frame on the way or the next to be handed out, up to (d, j), the next to be handed out

@@ -1,7 +1,7 @@
 -- The frames of a burst by number, for any size from 1 on: where each begins, and how many there are.
-use Prim.Native.Nat.{ℕ, zero, suc, ◌+◌, ◌-◌, ◌*◌, ◌/◌, ◌%◌, min, ◌≤◌, ◌<◌}
-use mathlib.Core.Path.{◌≡◌, refl, sym, ap, ◌∙◌}
-use native.Mathlib.Nat.{suc-mul, zero-mul, mul-le-mul_left, mul-le-mul_right, mul-le-mul, lt_of_mul-lt-mul_right, div-add-mod', mod-lt}
+use Prim.Native.Nat.{ℕ, suc, ◌+◌, ◌-◌, ◌*◌, ◌/◌, min, ◌≤◌, ◌<◌}
+use mathlib.Core.Path.{◌≡◌}
+use native.Mathlib.Nat.{suc-mul, zero-mul, mul-le-mul_left, mul-le-mul_right, lt_of_mul-lt-mul_right, div-add-mod', mod-lt}
 use native.Mathlib.Omega.{arith}
 
 module _ (base end size : ℕ) where

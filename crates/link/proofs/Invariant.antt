@@ -1,6 +1,6 @@
 -- What holds of the world while the sending port has reported nothing (Live), and once it has (Done).
 -- The groups speak of field values, so an event that leaves a value alone leaves the group as it is.
-use Prim.Native.Nat.{ℕ, suc, ◌+◌, ◌-◌, ◌*◌, ◌≤◌, ◌<◌}
+use Prim.Native.Nat.{ℕ, ◌+◌, ◌-◌, ◌*◌, ◌≤◌, ◌<◌}
 use mathlib.Core.List.{List, []}
 use mathlib.Core.Bool.{Bool, true, false}
 use mathlib.Core.Logic.{◌⊎◌}

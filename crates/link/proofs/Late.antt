@@ -3,21 +3,17 @@ use Prim.Native.Nat.{ℕ}
 use mathlib.Core.List.{List}
 use mathlib.Core.Bool.{true, false}
 use mathlib.Core.Logic.{◌⊎◌, inl, inr, ⊎_elim}
-use mathlib.Core.Path.{◌≡◌, refl, sym, ap, subst, ◌∙◌}
-use lib.ListN.{length, get_or}
-use Rattle.status.specs.Pick.{◌with◌}
-use Rattle.status.specs.Answer.{Said, view, Left, ◌saying◌}
-use Rattle.status.proofs.OpenedCall.{differ, open_entry}
-use Rattle.sender_steps.specs.Record.{holds_of}
-use Rattle.sender_steps.specs.Confirmation.{ended_of, failed_of}
+use mathlib.Core.Path.{◌≡◌, refl, sym, ap, subst}
+use Rattle.status.specs.Answer.{Said, view, Left}
+use Rattle.status.proofs.OpenedCall.{open_entry}
+use Rattle.sender_steps.specs.Confirmation.{ended_of}
 use Rattle.sender.specs.Confirmation.{loss_of}
 use Rattle.sender_steps.specs.declared.types.Sender.{Sender}
 use Rattle.sender_steps.proofs.Held.{held}
 use Rattle.sender.proofs.Kept.{ended_holds}
 use Rattle.sender.proofs.Ended.{loss_ended}
-use Rattle.link.specs.Ports.{Called, Signal, Ports}
-use Rattle.link.specs.Calls.{signalled}
-use Rattle.link.specs.World.{World, Report, Call, first, next, noted, called, sending≔, receiving≔, Late}
+use Rattle.link.specs.Ports.{Signal, Ports}
+use Rattle.link.specs.World.{World, Report, Call, first, next, noted, called, Late}
 use Rattle.link.proofs.Setting.{Setting}
 use Rattle.link.proofs.Simulates.{Simulates}
 use Rattle.link.proofs.Invariant.{Done, Reported, Inv, done}

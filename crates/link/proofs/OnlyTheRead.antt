@@ -1,11 +1,11 @@
 -- No call at the initiator of a read changes a byte outside the read: only DATA is stored, inside the burst, and the burst is inside the read.
-use Prim.Native.Nat.{ℕ, ◌+◌, ◌≤◌, ◌<◌}
+use Prim.Native.Nat.{ℕ, ◌+◌, ◌≤◌}
 use mathlib.Core.Bool.{Bool, true}
 use mathlib.Core.List.{List}
-use mathlib.Core.Logic.{◌⊎◌, ⊎_elim}
+use mathlib.Core.Logic.{⊎_elim}
 use mathlib.Core.Path.{◌≡◌, refl, sym, subst}
 use native.Mathlib.Omega.{arith}
-use lib.ListN.{length, get_or, length-take, length-drop}
+use lib.ListN.{length, length-take, length-drop}
 use Rattle.status.specs.Entry.{entry_of}
 use Rattle.status.specs.Answer.{Left, unless}
 use Rattle.status.specs.Result.{Result}
@@ -19,7 +19,7 @@ use Rattle.arrival.specs.Accept.{class_of, accept_of}
 use Rattle.arrival.specs.declared.Role.TheVariants.{ReadInitiator}
 use Rattle.arrival.specs.declared.Class.{Class}
 use Rattle.arrival.specs.declared.Arrived.{Arrived}
-use Rattle.arrival.proofs.Passed.{Passed, passed, arrived_in}
+use Rattle.arrival.proofs.Passed.{passed, arrived_in}
 use Rattle.receiver_steps.specs.Record.{holds_of, lent_of}
 use Rattle.receiver_steps.specs.DataFrame.{disposition_of, taken_of as handled, storing}
 use Rattle.receiver_steps.specs.declared.types.Receiver.{Receiver}
@@ -29,9 +29,8 @@ use Rattle.receiver_steps.proofs.Held.{held, lent}
 use Rattle.receiver_steps.proofs.Judged.{Inside, Judged, judged}
 use Rattle.receiver_steps.proofs.Buffer.{put_down, placed_length}
 use Rattle.receiver.specs.DataFrame.{arrival_of}
-use Rattle.receiver.specs.Record.{loss_of}
 use Rattle.receiver.proofs.Kept.{arrival_same}
-use Rattle.initiator.specs.Read.{read_holds_of, read_lent_of, taken_of, arrived_by, read_arrival_of, read_loss_of}
+use Rattle.initiator.specs.Read.{read_holds_of, read_lent_of, taken_of, arrived_by, read_arrival_of}
 use Rattle.initiator.proofs.ReadReturns.{not_expected_leaves, response_leaves}
 use Rattle.initiator.proofs.ReadViews.{arrival_gives}
 use Rattle.link.specs.Calls.{ReaderCall}

@@ -2,8 +2,8 @@
 use Prim.Native.Nat.{ℕ}
 use mathlib.Core.List.{List, []}
 use mathlib.Core.Bool.{true}
-use mathlib.Core.Logic.{◌⊎◌, inl, inr}
-use mathlib.Core.Path.{◌≡◌, refl, sym, ap, ◌∙◌}
+use mathlib.Core.Logic.{inl, inr}
+use mathlib.Core.Path.{◌≡◌, refl, ap}
 use Rattle.status.specs.Answer.{Said, Left, refuses}
 use Rattle.status.proofs.Leaves.{refusing}
 use Rattle.link.specs.Ports.{Called, lending, Signal, Ports}

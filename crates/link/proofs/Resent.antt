@@ -152,7 +152,7 @@ module _ (y : Target) where
   unfolding arrival_of
   arrival_quiet f m = go (came y f m)
     where
-      stored : {z : Left Receiver} {offset : ℕ} {cdp : Bool} {n : ℕ} → receiver.Arrived y.receiver offset cdp n z → Quiet z
+      stored : {offset : ℕ} {cdp : Bool} {n : ℕ} {z : Left Receiver} → receiver.Arrived y.receiver offset cdp n z → Quiet z
       stored (receiver.Arrived.full p) b = refl
       stored (receiver.Arrived.misplaced o p) b = refl
       stored (receiver.Arrived.long o p) b = refl

@@ -169,7 +169,7 @@ module _ (y : Target) where
   unfolding arrival_of
   arrival_other f m = go (came y f m)
     where
-      judged : {z : Left Receiver} {offset : ℕ} {cdp : Bool} {n : ℕ} → receiver.Arrived y.receiver offset cdp n z → Other z
+      judged : {offset : ℕ} {cdp : Bool} {n : ℕ} {z : Left Receiver} → receiver.Arrived y.receiver offset cdp n z → Other z
       judged (receiver.Arrived.full p) n e = differ (cc)
       judged (receiver.Arrived.misplaced o p) n e = let z : ◌≡◌ {A = ℕ} 20 33 = cc in omega arith
       judged (receiver.Arrived.long o p) n e = let z : ◌≡◌ {A = ℕ} 21 33 = cc in omega arith

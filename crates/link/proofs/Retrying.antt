@@ -1,14 +1,13 @@
 -- A retry begins on an empty link, or the port fails with more faults than its limit.
-use Prim.Native.Nat.{ℕ, zero, suc, ◌+◌, ◌-◌, ◌*◌, ◌≤◌, ◌<◌}
-use mathlib.Core.List.{List, [], ◌∷◌, ◌++◌}
+use Prim.Native.Nat.{ℕ, suc, ◌+◌, ◌*◌, ◌≤◌, ◌<◌}
+use mathlib.Core.List.{[]}
 use mathlib.Core.Bool.{Bool, true, false, false≢true}
-use mathlib.Core.Logic.{◌⊎◌, inl, inr, ⊎_elim}
+use mathlib.Core.Logic.{inl, inr, ⊎_elim}
 use mathlib.Core.Path.{◌≡◌, refl, sym, ap, subst, ◌∙◌}
 use native.Mathlib.Nat.{suc-mul, mul-le-mul_left}
 use native.Mathlib.Omega.{arith}
 use lib.ListN.{length}
 use Rattle.status.specs.Pick.{pick}
-use Rattle.sender_steps.specs.Record.{holds_of}
 use Rattle.sender_steps.specs.Confirmation.{restart_of, retried_of, ended_of}
 use Rattle.sender_steps.specs.declared.types.Sender.{Sender}
 use Rattle.sender_steps.proofs.Held.{held}
@@ -16,14 +15,14 @@ use Rattle.sender.proofs.Kept.{retried_holds, ended_holds}
 use Rattle.sender.proofs.Views.{Retried}
 use Rattle.receiver_steps.specs.declared.types.Receiver.{Receiver}
 use Rattle.receiver_steps.proofs.Held as receiver
-use Rattle.status.specs.Answer.{Said, Left}
+use Rattle.status.specs.Answer.{Left}
 use Rattle.link.specs.Ports.{Ports}
 use Rattle.link.specs.World.{World, Report, noted}
 use Rattle.link.proofs.Grid.{at_first, at_below, inside_mono}
-use Rattle.link.proofs.Setting.{Setting, place, within, enough, piece, sized}
+use Rattle.link.proofs.Setting.{Setting, place, enough, sized}
 use Rattle.link.proofs.Simulates.{Simulates}
 use Rattle.link.proofs.Flight.{Flight}
-use Rattle.link.proofs.Invariant.{Stored, Marked, Linked, Pending, Counted, Standing, Ported, Live, Done, Reported, Inv, ported_as, live, done}
+use Rattle.link.proofs.Invariant.{Stored, Marked, Counted, Standing, Ported, Reported, Inv, ported_as, live, done}
 use Rattle.link.proofs.Numbers.{j_most, within_bound}
 
 -- where a retry goes on: the base of a write is its frame 0

@@ -2,7 +2,7 @@
 use Prim.Native.Nat.{ℕ, ◌+◌, ◌-◌, ◌^◌, min, ◌≤◌, ◌<◌}
 use mathlib.Core.List.{List}
 use mathlib.Core.Bool.{Bool, true, false}
-use mathlib.Core.Path.{◌≡◌, refl, sym, ap, ap₂, subst, ◌∙◌}
+use mathlib.Core.Path.{◌≡◌, ap, ◌∙◌}
 use native.Mathlib.Omega.{arith}
 use lib.ListN.{length, take, drop, length-take, length-drop}
 use borrow.Author.Tests.{le-leb, lt-ltb}
@@ -14,12 +14,12 @@ use Rattle.frame.specs.Write.{writable}
 use Rattle.frame.specs.RoundTrip.{InRange}
 use Rattle.frame.specs.declared.types.Header.{Header}
 use Rattle.status.specs.Pick.{pick}
-use Rattle.sender_steps.specs.Transmit.{frame_of, data_header, lesser, part_of}
+use Rattle.sender_steps.specs.Transmit.{frame_of, data_header}
 use Rattle.sender_steps.specs.declared.types.Burst.{Burst}
 use Rattle.sender_steps.specs.declared.types.Sender.{Sender}
 use Rattle.receiver_steps.specs.Record.{right_length}
 use Rattle.receiver_steps.specs.declared.types.Receiver.{Receiver}
-use Rattle.link.proofs.Grid.{Inside, at, room, at_least, at_below, at_most, room_fits, needed}
+use Rattle.link.proofs.Grid.{Inside, at, room, at_least, at_most, room_fits, needed}
 
 pub record Setting : Type 0 where
   -- the sending port's transfer and the receiving port's

@@ -1,9 +1,9 @@
 -- Demand 3: the delivery claim holds from every start (specs/Claim `Starts`), after every allowed list of link events.
-use Prim.Native.Nat.{ℕ, ◌+◌, ◌*◌, ◌≤◌, ◌<◌}
-use mathlib.Core.List.{List, [], ◌∷◌}
+use Prim.Native.Nat.{ℕ, ◌≤◌}
+use mathlib.Core.List.{List}
 use mathlib.Core.Bool.{Bool, true, false, not, false≢true}
-use mathlib.Core.Logic.{◌⊎◌, inl, inr}
-use mathlib.Core.Path.{◌≡◌, refl, sym, ap, subst, subst₂, ◌∙◌}
+use mathlib.Core.Logic.{inl, inr}
+use mathlib.Core.Path.{◌≡◌, refl, sym, ap, subst₂}
 use native.Mathlib.Nat.{zero-mul}
 use native.Mathlib.Omega.{arith}
 use lib.ListN.{length}
@@ -23,9 +23,8 @@ use Rattle.receiver_steps.specs.Record as receiver-step
 use Rattle.receiver_steps.specs.declared.types.Receiver.{Receiver}
 use Rattle.receiver_steps.proofs.Held.{read_long}
 use Rattle.receiver.proofs.Kept as receiver-kept
-use Rattle.link.specs.Ports.{Ports}
-use Rattle.link.specs.World.{World, Report}
-use Rattle.link.specs.Delivers.{BurstParameters, fresh}
+use Rattle.link.specs.World.{World}
+use Rattle.link.specs.Delivers.{fresh}
 use Rattle.link.specs.Claim.{Alike, Starts, Always, DeliveryClaim}
 use Rattle.link.specs.Reading.{read_ports}
 use Rattle.link.proofs.Setting.{Setting}

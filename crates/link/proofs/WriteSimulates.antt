@@ -1,18 +1,18 @@
 -- The ports of a write burst move as the two cores do, while no further XFER_RDY is taken.
 use Prim.Native.Nat.{ℕ, max, ◌≤◌}
-use mathlib.Core.List.{List, []}
-use mathlib.Core.Bool.{Bool, true, false, false≢true}
+use mathlib.Core.List.{List}
+use mathlib.Core.Bool.{true, false, false≢true}
 use mathlib.Core.Logic.{◌⊎◌, inl, inr, ⊎_elim}
 use mathlib.Core.Path.{◌≡◌, refl, sym, ap, subst, ◌∙◌}
 use native.Mathlib.Omega.{arith}
 use lib.ListN.{length}
-use Rattle.status.specs.Pick.{pick, ◌with◌}
+use Rattle.status.specs.Pick.{◌with◌}
 use Rattle.status.specs.Answer.{Said, Left, ◌saying◌, refuses, fails}
 use Rattle.status.proofs.Leaves.{Leaves, refusing, refused_same, refused_stores, picked}
 use Rattle.transfer.specs.declared.Transfer.{Transfer}
 use Rattle.frame.specs.Format.{encode}
 use Rattle.frame.specs.Read.{header_in, iu_of}
-use Rattle.frame.specs.Write.{writable, over, handing}
+use Rattle.frame.specs.Write.{writable, handing}
 use Rattle.frame.specs.declared.types.Header.{Header}
 use Rattle.sender_steps.specs.Record as sender
 use Rattle.sender.specs.Transmit as transmit
@@ -35,11 +35,10 @@ use Rattle.initiator.specs.WriteRecord.{holds_of}
 use Rattle.initiator.specs.WriteSend.{begun_of, kept_of, next_of, lifted_of, reached_of}
 use Rattle.initiator.specs.WriteTake.{write_arrival_of, ended_of}
 use Rattle.initiator.specs.declared.types.Writer.{Writer}
-use Rattle.initiator.proofs.WriteHeld.{Marks, held, holds_again, lent_again}
+use Rattle.initiator.proofs.WriteHeld.{Marks, holds_again, lent_again}
 use Rattle.initiator.proofs.WriteReturns.{kept_says}
 use Rattle.initiator.proofs.WriteSame.{begun_same, next_is, kept_sender, ack_is, nak_is, timeout_is, cut_is, loss_is}
 use Rattle.initiator.proofs.WriteEnded as writer-ended
-use Rattle.initiator.proofs.WriteKept.{holds_with}
 use Rattle.initiator.proofs.WriteViews.{response_came}
 use Rattle.target.specs.Record.{READY}
 use Rattle.target.specs.Record as target
@@ -52,7 +51,7 @@ use Rattle.target.proofs.Views.{data_arrives, data_placed, lifts_to}
 use Rattle.target.proofs.Kept.{arrived_lent, response_stores_nothing, time_kept}
 use Rattle.target.proofs.Timed.{Timed, timed}
 use Rattle.target.proofs.Ended as target-ended
-use Rattle.link.specs.Ports.{Signal, Ports}
+use Rattle.link.specs.Ports.{Signal}
 use Rattle.link.specs.Calls.{signalled, write_signalled, target_signalled, TargetCall, target_call}
 use Rattle.link.specs.Reading.{IsResponse}
 use Rattle.link.specs.Writing.{TargetLate, TargetTimes, write_ports}

@@ -1,7 +1,7 @@
 -- Request K3, "a resent XFER_RDY stands for the one just before": what a target hands out again, and what an initiator that took the one before makes of it.
 -- Proved in proofs/Resent.antt (the target) and proofs/TakenAgain.antt.
 use Rattle.std.specs.Prelude.{ℕ, ◌-◌, List, [], ◌∷◌, ◌++◌, true, false, ◌⊎◌, ◌≡◌, length}
-use Rattle.status.specs.Answer.{Taking, Said, Left, ◌saying◌, unless}
+use Rattle.status.specs.Answer.{Taking, Said, ◌saying◌, unless}
 use Rattle.status.specs.Entry.{entry_of}
 use Rattle.status.specs.Result.{Result}
 use Rattle.frame.specs.Read.{header_in, iu_of}

@@ -1,6 +1,6 @@
 -- Every event leaves a well-formed record well-formed, with the same transfer and burst.
-use Prim.Native.Nat.{ℕ, ◌+◌, ◌≤◌, max}
-use mathlib.Core.Bool.{Bool, true, false}
+use Prim.Native.Nat.{ℕ, ◌+◌, ◌≤◌}
+use mathlib.Core.Bool.{Bool, true}
 use mathlib.Core.Path.{◌≡◌, refl, ap, ◌∙◌}
 use native.Mathlib.Omega.{arith}
 use Rattle.status.specs.Pick.{◌with◌}

@@ -1,11 +1,10 @@
 -- What a call of the receiving port comes to, as plain facts.
 use Prim.Native.Nat.{ℕ, ◌+◌, ◌≤◌, ◌<◌}
 use mathlib.Core.Bool.{Bool, true, false}
-use mathlib.Core.Path.{◌≡◌, refl}
+use mathlib.Core.Path.{◌≡◌}
 use native.Mathlib.Omega.{arith}
 use borrow.Author.Tests.{le-leb}
 use Rattle.status.specs.Entry.{entry_of}
-use Rattle.status.specs.Pick.{pick}
 use Rattle.status.specs.Answer.{Word, Said, Left, ◌saying◌}
 use Rattle.status.proofs.Choose.{in_true}
 use Rattle.status.proofs.OpenedCall.{open_entry, ended_entry}
@@ -17,7 +16,6 @@ use Rattle.receiver_steps.specs.DataFrame.{disposition_of, waiting_of, stored_of
 use Rattle.receiver.specs.DataFrame.{arrival_of}
 use Rattle.receiver_steps.specs.declared.types.Receiver.{Receiver}
 use Rattle.receiver_steps.specs.declared.types.DataDisposition.{DataDisposition}
-use Rattle.receiver_steps.specs.declared.types.DataDisposition.TheVariants.{Discard, Skip, Fail, Store}
 use Rattle.receiver_steps.proofs.Held.{Held, lent}
 use Rattle.receiver_steps.proofs.Judged.{Misplaced, Placed, Inside, OutOfStep, InStep, Judged, judged}
 

@@ -9,7 +9,7 @@ use borrow.Author.Tests.{le-leb, lt-ltb}
 use Rattle.frame.specs.Write.{writable}
 use Rattle.response.specs.Transmit.{lent_of, response_header}
 use Rattle.response.specs.declared.types.Responder.{Responder}
-use Rattle.response.proofs.Held.{Held, lent_held}
+use Rattle.response.proofs.Held.{lent_held}
 
 pub can_write : (x : Responder) (iu : List ℕ) → lent_of x (length iu) ≡ true → writable (response_header x) (length iu) ≡ true
 unfolding response_header

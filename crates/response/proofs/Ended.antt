@@ -6,11 +6,11 @@ use mathlib.Core.Path.{◌≡◌, refl}
 use lib.ListN.{length}
 use Rattle.frame.specs.Write.{hands}
 use Rattle.status.specs.Entry.{entry_of}
-use Rattle.status.specs.Answer.{Word, Said, Left, ◌saying◌}
+use Rattle.status.specs.Answer.{Said, Left, ◌saying◌}
 use Rattle.status.proofs.OpenedCall.{differ, ended_entry, ended_confirmable}
 use Rattle.status.proofs.Leaves.{Leaves, leaves_pick, leaves_unless, unless_gives}
 use Rattle.response.specs.Record.{holds_of}
-use Rattle.response.specs.Transmit.{lent_of, hands_of, next_of}
+use Rattle.response.specs.Transmit.{lent_of, next_of}
 use Rattle.response.specs.Confirmation.{retry_of, confirms_of, ack_of, nak_of, timeout_of, cut_of, loss_of}
 use Rattle.response.specs.declared.types.Responder.{Responder}
 

@@ -1,5 +1,5 @@
 -- The set_up makes a well-formed record, and every event leaves a well-formed record well-formed: only a retry moves what is tested.
-use Prim.Native.Nat.{ℕ, max, ◌+◌, ◌≤◌, ◌<◌}
+use Prim.Native.Nat.{ℕ, ◌≤◌}
 use mathlib.Core.List.{List}
 use mathlib.Core.Bool.{Bool, true, false}
 use mathlib.Core.Path.{◌≡◌, refl}
@@ -15,10 +15,10 @@ use Rattle.status.proofs.Leaves.{picked, unless_gives}
 use Rattle.transfer.specs.Limits.{limits_hold}
 use Rattle.transfer.specs.declared.Transfer.{Transfer}
 use Rattle.response.specs.Record.{most_of, tests, holds_of, start_of}
-use Rattle.response.specs.Transmit.{lent_of, hands_of, next_of}
+use Rattle.response.specs.Transmit.{lent_of, next_of}
 use Rattle.response.specs.Confirmation.{failed_of, retried_of, retry_of, confirms_of, ack_of, nak_of, timeout_of, cut_of, loss_of}
 use Rattle.response.specs.declared.types.Responder.{Responder}
-use Rattle.response.proofs.Held.{Held, held, holds_again}
+use Rattle.response.proofs.Held.{held, holds_again}
 
 pub starts_holds : (t : Transfer) (len : ℕ) → limits_hold t ≡ true → 24 ≤ len → len ≤ 1_024 → holds_of (start_of t len) ≡ true
 starts_holds t len l p q = holds_again (start_of t len) l (omega arith)

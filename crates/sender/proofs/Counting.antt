@@ -11,7 +11,7 @@ use Rattle.status.specs.declared.entry.Entry.{Entry}
 use Rattle.status.proofs.Leaves.{unless_gives}
 use Rattle.sender_steps.specs.Record.{holds_of, lent_of}
 use Rattle.sender_steps.specs.Transmit.{frame_of, sent_of}
-use Rattle.sender.specs.Transmit.{hands_of, next_of}
+use Rattle.sender.specs.Transmit.{next_of}
 use Rattle.sender_steps.specs.Count.{Counts}
 use Rattle.sender_steps.specs.Confirmation.{lowered_of, cause_of}
 use Rattle.sender_steps.proofs.Counting.{counts_pick, counts_failed, counts_retry, counts_settle}

@@ -1,18 +1,17 @@
 -- A refusal changes nothing; a failure or a read's delivery ends the record, and an ended record refuses every call.
 use Prim.Native.Nat.{ℕ}
 use mathlib.Core.List.{List}
-use mathlib.Core.Bool.{Bool, true, false, not}
+use mathlib.Core.Bool.{true, not}
 use mathlib.Core.Path.{◌≡◌, refl}
 use lib.ListN.{length}
 use Rattle.frame.specs.Write.{hands}
-use Rattle.status.specs.Pick.{pick}
-use Rattle.status.specs.Entry.{entry_of, confirmable_of}
+use Rattle.status.specs.Entry.{entry_of}
 use Rattle.status.specs.Answer.{Said, Left, ◌saying◌}
 use Rattle.status.proofs.OpenedCall.{differ, ended_entry, ended_confirmable}
 use Rattle.status.proofs.Leaves.{Leaves, leaves_pick, leaves_unless, unless_gives}
 use Rattle.sender_steps.specs.Record.{holds_of, lent_of}
 use Rattle.sender_steps.proofs.Ended.{failed_ended}
-use Rattle.sender.specs.Transmit.{hands_of, next_of}
+use Rattle.sender.specs.Transmit.{next_of}
 use Rattle.sender_steps.specs.Confirmation.{lowered_of, retry_of, advance_of, settle_of, cause_of}
 use Rattle.sender.specs.Confirmation.{confirms_of, ack_of, nak_of, timeout_of, cut_of, loss_of}
 use Rattle.sender_steps.specs.declared.types.Sender.{Sender}

@@ -1,5 +1,5 @@
 -- Every event leaves a well-formed record well-formed; a frame handed out asks that the frame count is below its limit by more than one.
-use Prim.Native.Nat.{ℕ, ◌+◌, ◌-◌, ◌^◌, min, ◌≤◌, ◌<◌}
+use Prim.Native.Nat.{ℕ, ◌+◌, ◌^◌, ◌≤◌, ◌<◌}
 use mathlib.Core.List.{List}
 use mathlib.Core.Bool.{Bool, true, false}
 use mathlib.Core.Path.{◌≡◌, refl}
@@ -7,21 +7,20 @@ use native.Mathlib.Omega.{arith}
 use lib.Dec.{leb}
 use lib.ListN.{length}
 use Rattle.frame.specs.Write.{hands}
-use Rattle.status.specs.Pick.{pick, all}
+use Rattle.status.specs.Pick.{pick}
 use Rattle.status.specs.Entry.{entry_of}
 use Rattle.status.specs.Answer.{Word, Said, Left, ◌saying◌}
-use Rattle.status.specs.Result.{Result, granted}
 use Rattle.status.proofs.Leaves.{picked, unless_gives}
 use Rattle.transfer.specs.Limits.{past, limits_hold}
 use Rattle.transfer.specs.declared.Transfer.{Transfer}
 use Rattle.sender_steps.specs.Record.{holds_of, beginning, lent_of}
-use Rattle.sender_steps.specs.Transmit.{waits_of, lesser, frame_of, sent_of}
+use Rattle.sender_steps.specs.Transmit.{waits_of, frame_of, sent_of}
 use Rattle.sender.specs.Transmit.{hands_of, next_of}
-use Rattle.sender_steps.specs.Confirmation.{lowered_of, ended_of, retried_of, restart_of, moved_of, delivered_of, settle_of, retry_of, cause_of}
+use Rattle.sender_steps.specs.Confirmation.{lowered_of, ended_of, retried_of, restart_of, moved_of, delivered_of, settle_of, cause_of}
 use Rattle.sender.specs.Confirmation.{confirms_of, ack_of, nak_of, timeout_of, cut_of, loss_of}
 use Rattle.sender_steps.specs.declared.types.Burst.{Burst}
 use Rattle.sender_steps.specs.declared.types.Sender.{Sender}
-use Rattle.sender_steps.proofs.Held.{Marks, Held, held, holds_again}
+use Rattle.sender_steps.proofs.Held.{Held, held, holds_again}
 use Rattle.sender_steps.proofs.Due.{Due, due}
 use Rattle.sender.proofs.Views.{Retried, retried, Settled, settled}
 

@@ -1,7 +1,7 @@
 -- What no event changes, transfer and burst, and how far the next offset goes.
-use Prim.Native.Nat.{ℕ, ◌+◌, ◌-◌, min, ◌≤◌}
+use Prim.Native.Nat.{ℕ, ◌≤◌}
 use mathlib.Core.List.{List}
-use mathlib.Core.Bool.{Bool, true, false}
+use mathlib.Core.Bool.{Bool, true}
 use mathlib.Core.Path.{◌≡◌, refl}
 use native.Mathlib.Nat.{le_refl}
 use native.Mathlib.Omega.{arith}
@@ -12,13 +12,11 @@ use Rattle.status.specs.Entry.{entry_of}
 use Rattle.status.specs.Answer.{Left, unless}
 use Rattle.status.specs.declared.entry.Entry.{Entry}
 use Rattle.status.proofs.Leaves.{picked, unless_gives}
-use Rattle.transfer.specs.declared.Transfer.{Transfer}
 use Rattle.sender_steps.specs.Record.{holds_of, lent_of}
 use Rattle.sender_steps.specs.Transmit.{sent_of}
-use Rattle.sender.specs.Transmit.{hands_of, next_of}
+use Rattle.sender.specs.Transmit.{next_of}
 use Rattle.sender_steps.specs.Confirmation.{lowered_of, restart_of, retry_of, advance_of, settle_of, cause_of}
 use Rattle.sender.specs.Confirmation.{confirms_of, ack_of, nak_of, timeout_of, cut_of, loss_of}
-use Rattle.sender_steps.specs.declared.types.Burst.{Burst}
 use Rattle.sender_steps.specs.declared.types.Sender.{Sender}
 use Rattle.sender_steps.proofs.Held.{Held}
 

@@ -1,18 +1,17 @@
 -- With 1 and 2 tested, a frame asked for is its step.
-use Prim.Native.Nat.{ℕ, ◌+◌, ◌≤◌, ◌<◌, ◌^◌}
+use Prim.Native.Nat.{ℕ, ◌+◌}
 use mathlib.Core.List.{List}
 use mathlib.Core.Bool.{true, false}
-use mathlib.Core.Path.{◌≡◌, refl, sym, ap, ◌∙◌}
+use mathlib.Core.Path.{◌≡◌, refl}
 use native.Mathlib.Omega.{arith}
 use lib.ListN.{length}
-use borrow.Author.Tests.{leb-true, ltb-true, le-leb, lt-ltb}
+use borrow.Author.Tests.{le-leb, lt-ltb}
 use Rattle.status.specs.Pick.{pick}
-use Rattle.status.proofs.Choose.{each}
 use Rattle.status.proofs.OpenedCall.{open_entry}
 use Rattle.frame.specs.Write.{writable}
 use Rattle.frame.proofs.Hands.{hands_answered}
 use Rattle.sender_steps.specs.Record.{lent_of}
-use Rattle.sender_steps.specs.Transmit.{data_header, part_of, frame_of, sent_of, fit_tests, fits_of, writes_of, frame_step_of}
+use Rattle.sender_steps.specs.Transmit.{data_header, part_of, frame_of, sent_of, fits_of, frame_step_of}
 use Rattle.sender.specs.Transmit.{next_of}
 use Rattle.sender_steps.specs.declared.types.Sender.{Sender}
 use Rattle.sender_steps.proofs.Held.{held, lent_holds}

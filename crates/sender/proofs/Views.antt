@@ -1,9 +1,9 @@
 -- What each event leaves, as a view: later layers go by these cases and see no test any more.
 use Prim.Native.Nat.{ℕ, ◌≤◌, ◌<◌}
 use mathlib.Core.List.{List}
-use mathlib.Core.Bool.{Bool, true, false, not, ◌||◌, false≢true}
+use mathlib.Core.Bool.{Bool, true, false, not, false≢true}
 use mathlib.Core.Logic.{◌⊎◌, inl, inr}
-use mathlib.Core.Path.{◌≡◌, refl, ap, ◌∙◌}
+use mathlib.Core.Path.{◌≡◌, refl}
 use native.Mathlib.Omega.{arith}
 use lib.Dec.{leb, ltb, eqb}
 use lib.ListN.{length}
@@ -17,7 +17,7 @@ use Rattle.status.specs.declared.words.Refusal.TheVariants.{AnswerWithoutFrame}
 use Rattle.status.proofs.OpenedCall.{open_entry, open_confirmable, confirmed}
 use Rattle.sender_steps.specs.Record.{holds_of, lent_of}
 use Rattle.sender_steps.specs.Transmit.{waits_of, frame_of, sent_of}
-use Rattle.sender.specs.Transmit.{hands_of, next_of}
+use Rattle.sender.specs.Transmit.{next_of}
 use Rattle.sender_steps.specs.Confirmation.{lowered_of, failed_of, retried_of, retry_of, moved_of, delivered_of, advance_of, settle_of, cause_of}
 use Rattle.sender.specs.Confirmation.{confirms_of, ack_of, nak_of, timeout_of, cut_of}
 use Rattle.sender_steps.specs.declared.types.Sender.{Sender}

@@ -1,20 +1,17 @@
 -- A frame that is due: the writer takes its header and data, and refuses only with 3.
-use Prim.Native.Nat.{ℕ, ◌+◌, ◌-◌, ◌%◌, ◌^◌, min, ◌≤◌, ◌<◌}
-use mathlib.Core.List.{List, [], ◌∷◌, ◌++◌}
+use Prim.Native.Nat.{ℕ, ◌≤◌, ◌<◌}
+use mathlib.Core.List.{List}
 use mathlib.Core.Bool.{Bool, true, false, ◌||◌}
 use mathlib.Core.Path.{◌≡◌, refl}
 use native.Mathlib.Omega.{arith}
-use lib.Dec.{leb, ltb, eqb}
-use lib.ListN.{length, take, drop, length-take, length-drop}
+use lib.Dec.{leb, eqb}
+use lib.ListN.{length, length-take, length-drop}
 use borrow.Author.Tests.{le-leb, lt-ltb, leb-false, eqb-false}
-use Rattle.status.specs.Pick.{pick}
 use Rattle.status.proofs.OpenedCall.{differ}
 use Rattle.frame.specs.Write.{writable}
-use Rattle.sender_steps.specs.Record.{holds_of}
 use Rattle.sender_steps.specs.Transmit.{waits_of, lesser, data_header, part_of}
 use Rattle.sender_steps.specs.declared.types.Sender.{Sender}
-use Rattle.sender_steps.specs.declared.types.Stepped.{Stepped}
-use Rattle.sender_steps.proofs.Held.{Held, held}
+use Rattle.sender_steps.proofs.Held.{Held}
 
 -- no NAK is pending, the window is not full, the next offset is below the end
 pub record Due (s : Sender) : Type 0 where

@@ -1,14 +1,13 @@
 -- In the common case a definition gives this: what the short paths of a read's target leave and tell is what its definitions say.
-use Prim.Native.Nat.{ℕ, ◌-◌, ◌<◌}
+use Prim.Native.Nat.{ℕ}
 use mathlib.Core.Path.{◌≡◌, refl, sym, ap, subst, ◌∙◌}
 use mathlib.Core.Bool.{Bool, true, false, not, ◌||◌, false≢true}
 use native.Mathlib.Omega.{arith}
-use lib.Dec.{eqb}
 use borrow.Author.Tests.{ne_eqb, eq-eqb}
 use Rattle.status.specs.Pick.{pick, ◌with◌}
-use Rattle.status.specs.Answer.{Word, Said, Left, ◌saying◌}
+use Rattle.status.specs.Answer.{Said, Left, ◌saying◌}
 use Rattle.status.proofs.Choose.{in_true, in_false}
-use Rattle.sender_steps.specs.Confirmation.{lowered_of, settle_of}
+use Rattle.sender_steps.specs.Confirmation.{lowered_of}
 use Rattle.sender_steps.specs.Fields.{balance≔, unanswered≔, retries≔, ended≔}
 use Rattle.sender.specs.Confirmation.{ack_of}
 use Rattle.sender.proofs.Views.{Settled, more, retries, moves, delivers, acked}

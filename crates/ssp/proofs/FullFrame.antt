@@ -7,11 +7,10 @@ use native.Mathlib.Omega.{arith}
 use lib.Dec.{leb, ltb, eqb}
 use lib.ListN.{length, take, drop}
 use borrow.Author.Tests.{le-leb, lt-leb, ne_eqb, eq-eqb, leb-true, ltb-true, not-true}
-use Rattle.status.specs.Pick.{pick, all, ◌with◌}
+use Rattle.status.specs.Pick.{all, ◌with◌}
 use Rattle.status.specs.Result.{Result}
 use Rattle.status.proofs.Choose.{each, in_true}
-use Rattle.frame.specs.Format.{encode}
-use Rattle.frame.specs.Write.{writable, write_answer, over, put}
+use Rattle.frame.specs.Write.{writable, write_answer, over}
 use Rattle.frame.specs.Full.{is_full, put_full}
 use Rattle.frame.specs.declared.types.Header.{Header}
 use Rattle.frame.proofs.Writer.{encode_length}

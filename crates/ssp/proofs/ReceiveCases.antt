@@ -1,27 +1,26 @@
 -- In the common case a definition gives this: what the short paths of the receiving ports leave and tell is what their definitions say.
-use Prim.Native.Nat.{ℕ, ◌+◌, ◌-◌, ◌≤◌, ◌<◌, max}
+use Prim.Native.Nat.{ℕ, ◌-◌, ◌≤◌, max}
 use mathlib.Core.List.{List}
-use mathlib.Core.Path.{◌≡◌, refl, sym, ap, subst, ◌∙◌}
+use mathlib.Core.Path.{◌≡◌, refl, sym, ap, ◌∙◌}
 use mathlib.Core.Bool.{Bool, true, false, not, ◌&&◌, ◌||◌}
 use mathlib.Core.Logic.{◌⊎◌, inl, inr}
 use native.Mathlib.Omega.{arith}
 use lib.Dec.{eqb}
 use lib.ListN.{length, drop}
-use borrow.Author.Tests.{ne_eqb, eq-eqb}
+use borrow.Author.Tests.{eq-eqb}
 use Rattle.status.specs.Pick.{pick, ◌with◌}
-use Rattle.status.specs.Answer.{Word, Said, Left, ◌saying◌, stores}
+use Rattle.status.specs.Answer.{Said, ◌saying◌, stores}
 use Rattle.status.specs.Result.{Result}
-use Rattle.status.proofs.Choose.{in_true, in_false}
 use Rattle.status.proofs.OpenedCall.{open_entry}
 use Rattle.transfer.specs.declared.Transfer.{Transfer}
 use Rattle.frame.specs.Format.{DATA, field}
-use Rattle.frame.specs.Read.{header_in, iu_of, iu_length, decode, parsed}
+use Rattle.frame.specs.Read.{header_in, iu_of, iu_length}
 use Rattle.frame.specs.PlainData.{PlainData, plain_header}
 use Rattle.frame.specs.Write.{placed}
 use Rattle.frame.specs.declared.types.Header.{Header}
-use Rattle.arrival.specs.Accept.{class_of, is_taken, screen_of, screened, accept_of}
+use Rattle.arrival.specs.Accept.{class_of, screen_of, screened, accept_of}
 use Rattle.arrival.specs.declared.Role.{Role}
-use Rattle.arrival.specs.declared.Role.TheVariants.{ReadInitiator, WriteTarget}
+use Rattle.arrival.specs.declared.Role.TheVariants.{ReadInitiator}
 use Rattle.arrival.specs.declared.Class.{Class}
 use Rattle.arrival.specs.declared.Arrived.{Arrived}
 use Rattle.receiver_steps.specs.Fields.{expected≔, filled≔, waiting≔}

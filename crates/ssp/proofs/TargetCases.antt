@@ -1,29 +1,27 @@
 -- In the common case a definition gives this: what the short path of a write's target leaves and tells is what its definitions say.
-use Prim.Native.Nat.{ℕ, ◌+◌, ◌≤◌, ◌<◌}
+use Prim.Native.Nat.{ℕ}
 use mathlib.Core.List.{List, [], ◌∷◌}
-use mathlib.Core.Path.{◌≡◌, refl, sym, ap, subst, ◌∙◌}
-use mathlib.Core.Bool.{Bool, true, false, not, ◌&&◌}
+use mathlib.Core.Path.{◌≡◌, refl, sym, ap, ◌∙◌}
+use mathlib.Core.Bool.{Bool, true, not, ◌&&◌}
 use native.Mathlib.Omega.{arith}
 use lib.Dec.{leb, ltb, eqb}
 use lib.ListN.{length, drop}
 use borrow.Author.Tests.{ne_eqb, eq-eqb, eqb-true, leb-true, ltb-true, le-leb}
-use Rattle.status.specs.Pick.{pick, all, ◌with◌}
-use Rattle.status.specs.Answer.{Word, Said, Left, ◌saying◌, stores}
-use Rattle.status.specs.Result.{Result}
-use Rattle.status.proofs.Choose.{in_true, in_false, each}
+use Rattle.status.specs.Pick.{pick, all}
+use Rattle.status.specs.Answer.{◌saying◌}
+use Rattle.status.proofs.Choose.{in_true, each}
 use Rattle.status.proofs.OpenedCall.{open_entry}
 use Rattle.frame.specs.Format.{DATA, field}
 use Rattle.frame.specs.Read.{header_in, iu_of}
-use Rattle.frame.specs.PlainData.{PlainData, plain_header, transfer_tag}
+use Rattle.frame.specs.PlainData.{PlainData, transfer_tag}
 use Rattle.frame.specs.Write.{placed}
-use Rattle.arrival.specs.Accept.{class_of, accept_of}
+use Rattle.arrival.specs.Accept.{class_of}
 use Rattle.arrival.specs.declared.Role.TheVariants.{WriteTarget}
 use Rattle.arrival.specs.declared.Class.{Class}
 use Rattle.receiver_steps.specs.Record as receiver
 use Rattle.receiver_steps.specs.DataFrame.{storing}
-use Rattle.receiver_steps.specs.declared.types.Receiver.{Receiver}
-use Rattle.target.specs.Record.{NONE, READY, holds_of}
-use Rattle.target.specs.Arrival.{lifted_of, is_current, taken_of, lent_of, write_arrival_of}
+use Rattle.target.specs.Record.{NONE, READY}
+use Rattle.target.specs.Arrival.{lifted_of, taken_of, lent_of, write_arrival_of}
 use Rattle.target.specs.declared.types.Target.{Target}
 use Rattle.target.proofs.Held.{holds_again, lent_again, core_lent}
 use Rattle.ssp.specs.CAnswer.{Leaves}

@@ -1,10 +1,10 @@
 -- The short paths of the receiving ports: what they test, and what they tell and leave. Only private functions promise these; the contracts that C has do not name them.
-use Rattle.std.specs.Prelude.{ℕ, ◌+◌, ◌-◌, ◌≤◌, ◌<◌, List, ◌≡◌, true, false, length, eqb}
+use Rattle.std.specs.Prelude.{ℕ, ◌+◌, ◌-◌, ◌≤◌, List, ◌≡◌, true, false, length, eqb}
 use Rattle.status.specs.Pick.{pick, ◌with◌}
 use Rattle.frame.specs.Format.{field}
 use Rattle.frame.specs.PlainData.{PlainData}
 use Rattle.receiver_steps.specs.Fields.{expected≔, filled≔}
-use Rattle.receiver_steps.specs.Record.{holds_of, lent_of}
+use Rattle.receiver_steps.specs.Record.{lent_of}
 use Rattle.receiver_steps.specs.declared.types.Receiver.{Receiver}
 use Rattle.target.specs.Fields.{receiver≔, stored≔, under≔, since≔, elapsed≔}
 use Rattle.target.specs.Record.{READY}

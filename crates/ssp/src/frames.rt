@@ -137,7 +137,7 @@ fn place(x: XferRdy, out: &mut [u8])
     ensures { out.new ≡ over (xfer_rdy_bytes (asked x)) out.old }
 {
     let iu = frame::write_xfer_rdy(asked(x));
-    bytes::copy(&iu, out);
+    out[..12].copy_from_slice(&iu);
 }
 
 // 3, else 12; the IU stands at the front of the output buffer.

@@ -1,6 +1,6 @@
 -- A refusal changes nothing, a failure ends the record, and an ended record refuses every call.
 use Prim.Native.Nat.{ℕ, ◌+◌, max}
-use mathlib.Core.Bool.{Bool, true, false}
+use mathlib.Core.Bool.{Bool, true}
 use mathlib.Core.List.{List}
 use mathlib.Core.Path.{◌≡◌, refl}
 use lib.Dec.{eqb}
@@ -20,7 +20,7 @@ use Rattle.receiver.specs.DataFrame.{arrival_of}
 use Rattle.receiver_steps.specs.declared.types.Receiver.{Receiver}
 use Rattle.receiver.proofs.Views as taking
 use Rattle.target.specs.Record.{holds_of}
-use Rattle.target.specs.Transmit.{hands_of, next_of}
+use Rattle.target.specs.Transmit.{next_of}
 use Rattle.target.specs.Confirmation.{confirms_of, retry_of, ack_of, nak_of, timeout_of, cut_of, loss_of}
 use Rattle.target.specs.Arrival.{lifted_of, write_arrival_of}
 use Rattle.target.specs.Time.{time_of}

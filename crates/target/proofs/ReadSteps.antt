@@ -2,7 +2,7 @@
 use Prim.Native.Nat.{ℕ}
 use mathlib.Core.List.{List, []}
 use mathlib.Core.Bool.{Bool, true, false}
-use mathlib.Core.Path.{◌≡◌, refl, sym, ap, ◌∙◌}
+use mathlib.Core.Path.{◌≡◌, sym, ap, ◌∙◌}
 use Rattle.status.specs.Pick.{pick}
 use Rattle.status.specs.Answer.{Said, Left, ◌saying◌}
 use Rattle.sender_steps.specs.Count.{Counts}

@@ -3,7 +3,7 @@ use Prim.Native.Nat.{ℕ, ◌+◌, ◌≤◌, ◌<◌}
 use mathlib.Core.List.{List}
 use mathlib.Core.Bool.{Bool, true, false, not, ◌&&◌, ◌||◌}
 use mathlib.Core.Logic.{◌⊎◌, inl, inr}
-use mathlib.Core.Path.{◌≡◌, refl, sym, ap, ◌∙◌}
+use mathlib.Core.Path.{◌≡◌, refl, ap, ◌∙◌}
 use native.Mathlib.Omega.{arith}
 use lib.Dec.{leb, ltb, eqb}
 use lib.ListN.{length}
@@ -13,7 +13,6 @@ use Rattle.status.specs.Entry.{confirmable_of}
 use Rattle.status.specs.Answer.{Word, Said, ◌saying◌}
 use Rattle.status.specs.declared.entry.Entry.TheVariants.{Open as open-entry-is, Closed}
 use Rattle.status.specs.declared.words.Refusal.TheVariants.{AnswerWithoutFrame}
-use Rattle.status.proofs.Choose.{and_true}
 use Rattle.status.proofs.OpenedCall.{open_entry, open_confirmable}
 use Rattle.frame.specs.Write.{hands}
 use Rattle.receiver_steps.specs.Fields.{ended≔}

@@ -28,7 +28,7 @@ use Rattle.arrival.proofs.Passed.{written_passes, written_stands}
 use Rattle.receiver.specs.DataFrame.{arrival_of}
 use Rattle.receiver_steps.specs.declared.types.Receiver.{Receiver}
 use Rattle.target.specs.Record.{UNANSWERED, READY, holds_of}
-use Rattle.target.specs.Transmit.{due_of, issued_of, frame_of, hands_of, next_of}
+use Rattle.target.specs.Transmit.{due_of, issued_of, frame_of, next_of}
 use Rattle.target.specs.Confirmation.{acknowledged_of, confirms_of, ack_of}
 use Rattle.target.specs.Arrival.{lifted_of, is_current, taken_of, arrived_by, lent_of, write_arrival_of}
 use Rattle.target.specs.declared.types.Target.{Target}

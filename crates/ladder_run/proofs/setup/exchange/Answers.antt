@@ -1,0 +1,17 @@
+use mathlib.Core.Path.{ap, ◌∙◌}
+use Rattle.status.specs.Answer.{Left}
+use Rattle.ladder_run.specs.Row.{handed}
+use Rattle.target.specs.declared.types.Target.{Target}
+use Rattle.ladder_run.proofs.Handed.{issued_most}
+use Rattle.ladder_run.proofs.Readied.{exchange_is}
+use borrow.Author.Rules.{rules}
+use Rattle.ladder_run.proofs.setup.exchange.Goals as goal
+
+pub slice_bounds-write_frame_received-end : goal.slice_bounds-write_frame_received-end
+slice_bounds-write_frame_received-end c =
+    let most = issued_most c.args.y (c.handed-n.ensures ∙ ap (λ (x : Left Target). handed x.says) c.write_next_frame-issued.ensures.0) in
+    search rules
+
+-- was returns
+pub returns : goal.returns
+returns c = exchange_is c.args.w c.args.y c.write_next_frame-issued.result c.write_frame_received-taken.result c.write_ack_received-acked.result c.write_next_frame-issued.ensures.0 c.write_next_frame-issued.ensures.1 c.handed-n.ensures c.write_frame_received-taken.ensures.0 c.write_ack_received-acked.ensures c.fresh.ensures

@@ -1,0 +1,21 @@
+-- The tests for the words choose the case.
+use Rattle.std.proofs.Common.{refl, ap, ◌∙◌}
+use Rattle.ladder_text.specs.Words.{receipt_of, numbered}
+use Rattle.ladder_text.proofs.Choose.{is_it, not_it}
+use Rattle.ladder_text.proofs.words.read_receipt.Goals as goal
+
+pub returns-then-is : goal.returns-then-is
+unfolding receipt_of
+returns-then-is c = is_it _ c.is.ensures c.if-is.true refl
+
+pub returns-then-is-2 : goal.returns-then-is-2
+unfolding receipt_of
+returns-then-is-2 c = not_it _ c.is.ensures c.if-is.false (is_it _ c.is-2.ensures c.if-is-2.true refl)
+
+pub returns-then-is-3 : goal.returns-then-is-3
+unfolding receipt_of
+returns-then-is-3 c = not_it _ c.is.ensures c.if-is.false (not_it _ c.is-2.ensures c.if-is-2.false (is_it _ c.is-3.ensures c.if-is-3.true refl))
+
+pub returns : goal.returns
+unfolding receipt_of
+returns c = not_it _ c.is.ensures c.if-is.false (not_it _ c.is-2.ensures c.if-is-2.false (not_it _ c.is-3.ensures c.if-is-3.false (c.given.ensures ∙ ap numbered c.read_number.ensures)))

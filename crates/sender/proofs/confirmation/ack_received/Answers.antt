@@ -1,0 +1,11 @@
+use mathlib.Core.List.{[]}
+use mathlib.Core.Path.{sym, ◌∙◌}
+use Rattle.sender.proofs.Counting.{both, ack_counts}
+use Rattle.sender.proofs.confirmation.ack_received.Goals as goal
+
+-- was returns-2
+pub returns-in-Open : goal.returns-in-Open
+returns-in-Open c =
+    both c.args.s []
+    (rw (sym c.confirmable.ensures ∙ c.in-Open.is) c.ack_step.ensures)
+    (ack_counts c.args.s)

@@ -1,0 +1,51 @@
+use Prim.Native.Nat.{ℕ, ◌+◌, ◌≤◌}
+use mathlib.Core.List.{List}
+use mathlib.Core.Path.{◌≡◌, refl, sym, ap, ◌∙◌}
+use lib.ListN.{length, take, drop}
+use Rattle.status.proofs.OpenedCall.{opened, entry_is}
+use Rattle.status.specs.Answer.{Left}
+use Rattle.frame.specs.Read.{header_in, iu_of}
+use Rattle.arrival.specs.Accept.{accepted}
+use Rattle.arrival.specs.declared.Role.TheVariants.{WriteTarget}
+use Rattle.arrival.specs.declared.Arrived.{Arrived}
+use Rattle.arrival.proofs.Passed.{Passed, passed}
+use Rattle.receiver_steps.specs.DataFrame.{storing}
+use Rattle.target.specs.Arrival.{taken_of, write_arrival_of}
+use Rattle.target.specs.declared.types.Target.{Target}
+use Rattle.target.proofs.incoming.write_frame_received.Goals as goal
+
+-- the frame that was taken, as the bytes have it
+inside : {f : List ℕ} {a : Arrived} → Passed WriteTarget f a → a.start + a.len ≤ length f
+inside p = rw (sym p.is) p.inside
+
+placed-is : (x : Target) (f d : List ℕ) {a : Arrived} {y : Left Target} {left : List ℕ} → Passed WriteTarget f a → (y ≡ taken_of x a (length d)) × (left ≡ storing (taken_of x a (length d)).says a.header.offset (take a.len (drop a.start f)) d) → (y ≡ taken_of x a (length d)) × (left ≡ storing (taken_of x a (length d)).says (header_in f).offset (iu_of f) d)
+placed-is x f d {a} p t = (t.0, t.1 ∙ ap (λ (b : Arrived). storing (taken_of x a (length d)).says b.header.offset (take b.len (drop b.start f)) d) (sym p.is))
+
+-- was take-requires
+pub take-requires : goal.take-requires
+take-requires c =
+    let e = c in
+    let o = opened _ _ (sym c.in-Open.is ∙ e.admit.ensures) in
+    (inside (passed _ WriteTarget _ _ (sym c.accept.ensures ∙ ap accepted c.in-Frame.is)), sym e.lent-ok.ensures ∙ o.0, o.1)
+
+-- was returns
+pub returns-in-Closed : goal.returns-in-Closed
+unfolding write_arrival_of
+returns-in-Closed c = let e = c in rw (entry_is _ e.lent-ok.ensures e.admit.ensures c.in-Closed.is) (c.refused.ensures, refl)
+
+-- was returns-2
+pub returns-in-Refused : goal.returns-in-Refused
+unfolding write_arrival_of
+returns-in-Refused c =
+    let e = c in
+    rw (entry_is _ e.lent-ok.ensures e.admit.ensures c.in-Open.is, sym c.accept.ensures ∙ ap accepted c.in-Refused.is) (c.refused-in-Refused.ensures, refl)
+
+-- was returns-3
+pub returns-in-Frame : goal.returns-in-Frame
+unfolding write_arrival_of
+returns-in-Frame c =
+    let g = c in
+    let e = g in
+    let p = sym g.accept.ensures ∙ ap accepted c.in-Frame.is in
+    let s = e.args in
+    rw (entry_is _ e.lent-ok.ensures e.admit.ensures c.in-Open.is, p) (placed-is s.x s.bytes.now s.buffer.now (passed _ WriteTarget _ _ p) c.take.ensures)

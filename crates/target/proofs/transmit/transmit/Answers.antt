@@ -1,0 +1,37 @@
+use mathlib.Core.Path.{sym, ap, ◌∙◌}
+use lib.Dec.{eqb}
+use Rattle.frame.specs.Write.{written, answered}
+use Rattle.frame.specs.declared.types.Written.{Written}
+use Rattle.frame.proofs.Hands.{handed}
+use Rattle.target.specs.Record.{AGAIN}
+use Rattle.target.specs.Transmit.{issued_of, xfer_rdy_header, xfer_rdy_iu, frame_of}
+use Rattle.target.proofs.Held.{held}
+use Rattle.target.proofs.Issue.{issued_order, writes}
+use Rattle.target.proofs.transmit.transmit.Goals as goal
+
+-- was iu-requires
+
+pub iu-bytes-requires : goal.iu-bytes-requires
+iu-bytes-requires c = rw c.issue-y.ensures (issued_order _ (held _ c.requires)).0
+
+-- was returns
+pub returns-in-Frame : goal.returns-in-Frame
+unfolding frame_of
+returns-in-Frame c =
+    let h = c in
+    let s = h in
+    let x = s.args.x in
+    let y = h.issue-y.ensures in
+    handed x (issued_of x) (xfer_rdy_header (issued_of x) (eqb x.state AGAIN)) (xfer_rdy_iu (issued_of x)) s.args.out.now (writes x (held _ s.requires))
+    (rw y (ap (λ (w : Written). answered x (issued_of x) (written w)) (sym c.in-Frame.is))) (rw y at h.header.ensures) (rw y at h.iu-bytes.ensures) c.write-written.ensures
+
+-- was returns-2
+pub returns-in-Refused : goal.returns-in-Refused
+unfolding frame_of
+returns-in-Refused c =
+    let h = c in
+    let s = h in
+    let x = s.args.x in
+    let y = h.issue-y.ensures in
+    handed x (issued_of x) (xfer_rdy_header (issued_of x) (eqb x.state AGAIN)) (xfer_rdy_iu (issued_of x)) s.args.out.now (writes x (held _ s.requires))
+    (c.refused.ensures ∙ ap (λ (w : Written). answered x (issued_of x) (written w)) (sym c.in-Refused.is)) (rw y at h.header.ensures) (rw y at h.iu-bytes.ensures) c.write-written.ensures
