@@ -52,7 +52,8 @@ fn write_whole(to: &mut impl Write, text: &[u8]) {
     }
 }
 
-// A ladder of any length.
+// A ladder of any length. It stays a function of its own, so that its buffer is not in the frame of `main`.
+#[inline(never)]
 fn large(input: &[u8], to: &mut impl Write) {
     let mut out = text_buffer();
     let Printed::Text(len) = ladder_print::print_ladder(input, &mut out) else {
@@ -61,8 +62,7 @@ fn large(input: &[u8], to: &mut impl Write) {
     write_whole(to, &out[..len]);
 }
 
-// A small ladder takes less time than zeros for the large buffer, so a small one is tried first, unless the input is long. With two calls of `large` the
-// compiler keeps the large buffer out of this frame.
+// A small ladder takes less time than zeros for the large buffer, so a small one is tried first, unless the input is long.
 fn main(rt: HostRuntime) {
     let mut stdout = rt.stdout();
     let mut input = input_buffer();
