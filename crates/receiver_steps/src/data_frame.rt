@@ -88,7 +88,7 @@ fn store(offset: usize, iu: &[u8], buffer: &mut [u8])
     ensures { buffer.new ≡ placed buffer.old offset iu.now }
 {
     let past = offset + iu.len();
-    buffer[offset..past].copy_from_slice(iu);
+    frame::copy(iu, &mut buffer[offset..past]);
 }
 
 // The frame is judged, and done with as its disposition says.

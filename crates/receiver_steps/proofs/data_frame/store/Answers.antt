@@ -1,5 +1,10 @@
-use Rattle.frame.proofs.Place.{copied_whole}
+use native.Mathlib.Omega.{arith}
+use Prim.Native.Nat.{◌+◌}
+use lib.ListN.{length}
+use Rattle.frame.proofs.Place.{copied_over}
 use Rattle.receiver_steps.proofs.data_frame.store.Goals as goal
 
 pub returns : goal.returns
-returns c = let a = c.args in rw c.copy_from_slice.ensures.after (copied_whole a.buffer.now a.iu.now a.offset)
+returns c =
+    let a = c.args in
+    rw c.copy.ensures (copied_over a.buffer.now a.iu.now a.offset (a.offset + length a.iu.now) (omega arith) (omega arith))
