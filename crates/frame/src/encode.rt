@@ -60,7 +60,8 @@ fn place(src: &[u8], dst: &mut [u8], at: usize)
     requires { at + length src.now ≤ length dst.old }
     ensures { dst.new ≡ placed dst.old at src.now }
 {
-    words::copy(src, &mut dst[at..]);
+    let past = at + src.len();
+    words::copy(src, &mut dst[at..past]);
 }
 
 // Puts n zeros down at `at`, 3 at most: each number by itself, so that no call to clear memory is made of it.

@@ -6,9 +6,7 @@ use mathlib.Core.Logic.{inl, inr}
 use mathlib.Core.Path.{◌≡◌, refl, ap, subst, subst₂, ◌∙◌}
 use native.Mathlib.Omega.{arith}
 use lib.ListN.{length}
-use Rattle.status.specs.Pick.{pick}
 use Rattle.status.specs.Answer.{Left}
-use Rattle.status.specs.Result.{granted}
 use Rattle.initiator.specs.WriteRecord as initiator
 use Rattle.initiator.specs.WriteCount.{takes}
 use Rattle.initiator.specs.declared.types.Writer.{Writer}

@@ -21,7 +21,6 @@ use Rattle.ladder_text.specs.declared.types.Row.{Row}
 use Rattle.ladder_run.specs.Ends.{ask_of, past_of}
 use Rattle.ladder_run.specs.Row.{area, silent, ROWS-MOST, COUNT-MOST, open_of, Sent, out_by, nothing_of, sent_of as met, asked_by, out_of}
 use Rattle.ladder_run.specs.declared.types.Sending.{Sending}
-use Rattle.ladder_run.specs.declared.types.Report.{Report}
 use Rattle.ladder_run.specs.declared.types.Ladder.{Ladder}
 use Rattle.ladder_run.specs.declared.types.Due.TheVariants as due
 use Rattle.ladder_claim.proofs.SendingCore.{SendsAs, past_as, asks_as}

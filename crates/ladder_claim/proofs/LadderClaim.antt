@@ -4,11 +4,10 @@ use mathlib.Core.List.{List}
 use mathlib.Core.Bool.{false, false≢true}
 use mathlib.Core.Logic.{inl}
 use mathlib.Core.Path.{◌≡◌, sym, ap, subst, ◌∙◌}
-use native.Mathlib.Decide.{dec_lt}
 use native.Mathlib.Nat.{mul-le-mul_left}
 use native.Mathlib.Omega.{arith}
 use lib.Seq.{ext_get_or}
-use lib.ListN.{length, get_or, length-map, get_or-eq_default}
+use lib.ListN.{length, get_or, length-map}
 use Rattle.status.proofs.OpenedCall.{differ}
 use Rattle.frame.specs.Read.{decode}
 use Rattle.link.specs.Ports.{Ports}

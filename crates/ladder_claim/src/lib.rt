@@ -1,1 +1,3 @@
+#![tactic(auto)]
+
 // What holds of every ladder: definitions and theorems, no code.

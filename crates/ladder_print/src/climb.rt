@@ -1,6 +1,8 @@
 // The lines of a ladder, one below the other.
+ghost use Rattle.std.specs.Prelude.{◌≤◌, length};
 ghost use Rattle.ladder_run.specs.Whole.{whole_of};
-ghost use Rattle.ladder_print.specs.Text.{whole_text};
+ghost use Rattle.ladder_text.specs.Place.{Puts};
+ghost use Rattle.ladder_print.specs.Text.{whole_text, TEXT-MOST};
 ghost use Rattle.ladder_print.specs.Room.{Tries};
 
 use crate::put;
@@ -9,7 +11,7 @@ use ladder_run::{Ladder, Line};
 use ladder_text::ROOM;
 
 // The ladder's rows and its verdict, from the front of `out` on, while there is room for a line; how many bytes.
-pub(crate) fn climb(
+pub(crate) fn climb_if_room(
     start: Ladder,
     fates: &[u8],
     source: &[u8],
@@ -42,4 +44,21 @@ pub(crate) fn climb(
         return Printed::NoRoom;
     }
     Printed::Text(put::verdict(out, at, ladder_run::verdict(l, fates)))
+}
+
+// The same with room for every ladder.
+pub(crate) fn climb(
+    start: Ladder,
+    fates: &[u8],
+    source: &[u8],
+    received: &mut [u8],
+    out: &mut [u8],
+) -> usize
+    requires { TEXT-MOST ≤ length out.old }
+    ensures { Puts out.old 0 (whole_text fates.now (whole_of fates.now source.now start received.old)) result out.new × (result ≤ TEXT-MOST) }
+{
+    match climb_if_room(start, fates, source, received, out) {
+        Printed::Text(n) => n,
+        Printed::NoRoom => 0,
+    }
 }

@@ -7,7 +7,7 @@ use Rattle.ladder_run.specs.Setup.{made}
 use Rattle.ladder_run.specs.declared.types.Ladder.{Ladder}
 use Rattle.ladder_print.specs.Text.{set_up_text}
 use Rattle.ladder_print.proofs.Tried.{tries_as, tries_text}
-use Rattle.ladder_print.proofs.run.run.Goals as goal
+use Rattle.ladder_print.proofs.run.run_if_room.Goals as goal
 
 pub returns-in-Refused : goal.returns-in-Refused
 returns-in-Refused c =
@@ -19,4 +19,4 @@ pub returns-in-Ready : goal.returns-in-Ready
 returns-in-Ready c =
     tries_as
     (ap (λ (o : Result Ladder). set_up_text o c.args.r.count (map fate_number (fates_at c.args.input.now c.args.at))) (sym (ap made c.in-Ready.is) ∙ c.set_up.ensures))
-    c.from_start.ensures
+    c.from_start_if_room.ensures

@@ -1,7 +1,7 @@
 use Rattle.std.proofs.Common.{◌≡◌, length}
 use Rattle.ladder_run.specs.Whole.{whole_of}
 use Rattle.ladder_print.proofs.Climbing.{Climbing}
-use Rattle.ladder_print.proofs.climb.climb.Given as goal
+use Rattle.ladder_print.proofs.climb.climb_if_room.Given as goal
 
 -- what stands printed and what is to come are the whole ladder
 abbrev pub invariant-loop-left : goal.invariant-loop-left
