@@ -13,7 +13,8 @@ use crate::{climb, data, put};
 use ladder_run::{Ladder, Setup};
 use ladder_text::{ROOM, Run, RunFile};
 
-// The ladder from its start, over the fates from place `at` of the input on.
+// The ladder from its start, over the fates from place `at` of the input on. It stays a function of its own, so that its buffers are in no caller's frame.
+#[inline(never)]
 fn large(l: Ladder, count: u32, input: &[u8], at: usize, out: &mut [u8]) -> Printed
     requires { (count ≤ COUNT-MOST) × (length (fates_at input.now at) ≤ FATES-MOST) }
     ensures { Tries (start_text l count (map fate_number (fates_at input.now at))) out.old result out.new }
@@ -41,7 +42,7 @@ fn small(l: Ladder, count: u32, input: &[u8], at: usize, out: &mut [u8]) -> Prin
     climb::climb_if_room(l, &fates[0..n], &sent[0..m], &mut received[0..m], out)
 }
 
-// Large buffers only where they are needed: a small run takes less time than their zeros. With two calls the compiler keeps them out of this frame.
+// Large buffers only where they are needed: a small run takes less time than their zeros.
 fn from_start_if_room(l: Ladder, count: u32, input: &[u8], at: usize, out: &mut [u8]) -> Printed
     requires { (count ≤ COUNT-MOST) × (length (fates_at input.now at) ≤ FATES-MOST) × (3 * length (fates_at input.now at) ≤ length input.now) }
     ensures { Tries (start_text l count (map fate_number (fates_at input.now at))) out.old result out.new }
