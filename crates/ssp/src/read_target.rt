@@ -110,7 +110,7 @@ fn ack_received(s: Sender) -> ReadTargetReturn
 }
 
 fn whole_ack_received(s: &mut Sender) -> CAnswer
-    ensures { Leaves (read_ack_of s.old) s.new result }
+    ensures left { Leaves (read_ack_of s.old) s.new result }
 {
     let r = ack_received(*s);
     *s = r.left;
@@ -119,7 +119,7 @@ fn whole_ack_received(s: &mut Sender) -> CAnswer
 
 // Frames stay unanswered: the short path.
 fn ack_of_many(s: &mut Sender) -> CAnswer
-    ensures { Leaves (read_ack_of s.old) s.new result }
+    ensures left { Leaves (read_ack_of s.old) s.new result }
 {
     if short_read_target::is_one_of_many(*s) {
         let a = short_read_target::taken(*s);
@@ -131,7 +131,7 @@ fn ack_of_many(s: &mut Sender) -> CAnswer
 
 // The last one due, and no NAK is pending: the short path.
 fn ack_of_last(s: &mut Sender) -> CAnswer
-    ensures { Leaves (read_ack_of s.old) s.new result }
+    ensures left { Leaves (read_ack_of s.old) s.new result }
 {
     if short_read_target::is_last(*s) {
         let a = short_read_target::last_told(*s);
