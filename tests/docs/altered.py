@@ -34,6 +34,7 @@ cases = [
     ("a crate that is missing in the map", "maps", "README.md", r"^\| arrival \|.*\n", "", "the map of crates is not"),
     ("a crate that is not below", "maps", "README.md", r"\| initiator, target \|", "| initiator, response |", "link does not build on response"),
     ("a law that is not in its file", "maps", "docs/PROOFS.md", r"`next_step`\), Views", "`no_such_law`), Views", "`no_such_law` is not in crates/sender"),
+    ("a file of laws that is not there", "maps", "docs/PROOFS.md", r"\| status \| Choose", "| status | Chosen", "Chosen is no file of status proofs"),
     ("a count of lines", "maps", "docs/PROOFS.md", r"about (\S+) lines", r"about 1\1 lines", "lines of code"),
     ("a count of edits", "maps", "docs/TESTING.md", r"crates, (\d+) edits", r"crates, 1\1 edits", "edits"),
     ("a count of functions", "maps", "docs/RULES.md", r"exports (\d+) C", r"exports 1\1 C", "C functions"),

@@ -40,6 +40,9 @@ for crate, _, below in readme:
 laws = 0
 for crate, text in rows("docs/PROOFS.md", 2):
     path = None
+    for word in re.findall(r"\b[A-Z][a-z]\w*", re.sub(r"`[^`]*`|\([^()]*\)", "", text)):
+        if not (root / "crates" / crate / "proofs" / f"{word}.antt").is_file():
+            wrong("docs/PROOFS.md", f"{word} is no file of {crate} proofs")
     for word, name in re.findall(r"\b([A-Z]\w+)\b|`([^`]+)`", text):
         there = root / "crates" / crate / "proofs" / f"{word}.antt"
         if word and there.is_file():
