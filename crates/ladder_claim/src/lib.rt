@@ -1,3 +1,2 @@
-#![tactic(auto)]
-
 // What holds of every ladder: definitions and theorems, no code.
+#![tactic(auto)]
