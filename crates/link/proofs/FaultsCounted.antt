@@ -1,26 +1,19 @@
 -- The tally's faults are those that the events add (`faults_counted`).
 use Prim.Native.Nat.{ℕ, ◌+◌, ◌≤◌}
-use mathlib.Core.List.{List, [], ◌∷◌, ◌++◌}
+use mathlib.Core.List.{List, [], ◌∷◌}
 use mathlib.Core.Bool.{Bool, true, false, ◌&&◌}
-use mathlib.Core.Option.{Option, none, some}
 use mathlib.Core.Path.{◌≡◌, refl, ap, ◌∙◌}
 use native.Mathlib.Omega.{arith}
 use lib.Dec.{ltb, eqb}
-use lib.ListN.{length, take, length-append}
+use lib.ListN.{length, length-append}
 use borrow.Author.Tests.{eqb-true, eqb-false, le-ltb, lt-ltb}
-use Rattle.status.specs.Pick.{pick, if_any}
-use Rattle.status.specs.Answer.{view}
-use Rattle.link.specs.Ports.{Ports, Called}
+use Rattle.status.specs.Pick.{pick}
+use Rattle.link.specs.Ports.{Ports}
 use Rattle.link.specs.Tally.{Confirmation, Tally, cut_fault, timeout_fault}
-use Rattle.link.specs.World.{World, Event, Call, ask, arrives, damaged, frame_lost, confirmed, confirmation_lost, timeout, cut, other, step, run, asks, sends, arrives_whole, arrives_damaged, loses_frame, confirms, loses_confirmation, called}
+use Rattle.link.specs.World.{World, Event, Call, ask, arrives, damaged, frame_lost, confirmed, confirmation_lost, timeout, cut, other, step, run, arrives_whole, arrives_damaged, loses_frame, confirms, loses_confirmation, called}
 use Rattle.link.specs.Delivers.{fresh}
 use Rattle.link.specs.FaultsCounted.{Since, none_yet, unanswered, early, one, first_frame, first_answer, ack_first, fault_of, after, faults_in, bad, bad_in, FaultsCounted}
-
--- what is unanswered is on the way or lost, and the counts since the last timeout or cut are the tally's
-record Level (frames answers : ℕ) (t : Tally) (c : Since) : Type 0 where
-  pub conserved : frames + answers + t.lost ≡ t.unanswered
-  pub handed : c.handed ≡ c.reached + t.unanswered
-  pub lost : c.lost ≡ t.lost
+use Rattle.link.proofs.FaultsAsked.{Stands, Goes, asked}
 
 -- "with frames unanswered": the tally's count and the two counts agree
 cut_is : (t : Tally) (c : Since) → c.handed ≡ c.reached + t.unanswered → cut_fault t ≡ one (unanswered c)
@@ -54,23 +47,8 @@ ack_first_lem (Confirmation.ack ∷ rest) = omega arith
 ack_first_lem (Confirmation.nak ∷ rest) = omega arith
 
 module _ {P : Ports} where
-  abbrev Stands : World P → Since → Type 0
-  Stands w c = Level (length w.frames) (length w.confirmations) w.tally c
-
-  -- an event adds its faults, and the counts go on
-  record Goes (w v : World P) (fault : ℕ) (c : Since) : Type 0 where
-    pub faults : v.tally.faults ≡ w.tally.faults + fault
-    pub stands : Stands v c
-
   module _ (w : World P) (c : Since) (s : Stands w c) where
     open s use {conserved, handed, lost}
-
-    asked : (x : Called P.Sending) → Goes w (asks w x) 0 (if_any (view x.says).frame (λ n. record { handed = c.handed + 1; reached = c.reached; lost = c.lost }) c)
-    asked x = go (view x.says).frame
-      where
-        go : (o : Option ℕ) → Goes w (if_any o (λ n. record { sending = x.left; receiving = w.receiving; sent = w.sent; received = w.received; frames = w.frames ++ (take n x.lent ∷ []); confirmations = w.confirmations; tally = record { unanswered = w.tally.unanswered + 1; lost = w.tally.lost; faults = w.tally.faults }; handed = w.handed ++ (take n x.lent ∷ []); report = (sends w (record { left = x.left; says = x.says })).report }) (sends w (record { left = x.left; says = x.says }))) 0 (if_any o (λ n. record { handed = c.handed + 1; reached = c.reached; lost = c.lost }) c)
-        go (some n) = record { faults = omega arith; stands = record { conserved = omega (arith, conserved, length-append w.frames (take n x.lent ∷ [])); handed = omega (arith, handed); lost = lost } }
-        go none = record { faults = omega arith; stands = s }
 
     whole : (fs : List (List ℕ)) → w.frames ≡ fs → Goes w (arrives_whole w fs) 0 c
     whole [] e = record { faults = omega arith; stands = s }
@@ -103,7 +81,7 @@ module _ {P : Ports} where
     calls (Call.at_receiver_in k b) = record { faults = omega arith; stands = s }
 
     goes : (e : Event P) → Goes w (step w e) (fault_of w e c) (after w e c)
-    goes (ask out) = asked (P.ask w.sending w.sent out)
+    goes (ask out) = asked w c s (P.ask w.sending w.sent out)
     goes arrives = whole w.frames refl
     goes damaged = damages w.frames refl
     goes frame_lost = loses w.frames refl

@@ -21,6 +21,7 @@ pub mod Filled
 pub mod ReadSimulates
 pub mod WriteSimulates
 pub mod Exchange
+pub mod ReadSetting
 pub mod Theorem
 pub mod TakenAlike
 pub mod Resent
@@ -28,6 +29,7 @@ pub mod TakenAgain
 pub mod EndedRefuses
 pub mod ByAnswer
 pub mod OneFault
+pub mod FaultsAsked
 pub mod FaultsCounted
 pub mod CarriesValue
 pub mod ResponseTimeout

@@ -24,8 +24,10 @@ use Rattle.target.specs.Time.{time_of}
 use Rattle.target.specs.declared.types.Target.{Target}
 use Rattle.target.proofs.Held.{held}
 use Rattle.target.proofs.Views.{Came, came}
-use Rattle.target.proofs.Timed.{Span, Timed}
+use Rattle.target.proofs.InSpan.{Span}
+use Rattle.target.proofs.Timed.{Timed}
 use Rattle.target.proofs.Timed as timed
+use Rattle.target.proofs.TimedOnly as timed-only
 use Rattle.target.proofs.Moved.{Moved}
 use Rattle.target.proofs.Moved as moved
 use Rattle.target.proofs.Within.{Within}
@@ -129,7 +131,7 @@ fails_exactly t y e cs ms = (fail, expires)
 
     fail : fails (time_of (after y cs) ms).says ≡ true → Expires t (clock_of stopped y cs) ms
     fail f =
-        let r = timed.fails_only (after y cs) ms f in
+        let r = timed-only.fails_only (after y cs) ms f in
         let u = s.ticks.runs r.span in
         (u, λ o. r.on (irt ∙ o), omega (arith, r.reached, irt, s.ticks.sum u r.on))
 
@@ -189,4 +191,4 @@ time_only TargetCall.asking y b n e = absurd (next_other y b n e)
 time_only (TargetCall.signals g) y b n e = absurd (signal_other y g n e)
 
 pub outside_stays : OutsideStays
-outside_stays x o ms = timed.outside_stays x ms o
+outside_stays x o ms = timed-only.outside_stays x ms o

@@ -18,7 +18,8 @@ use Rattle.arrival.specs.declared.Class.{Class}
 use Rattle.arrival.specs.declared.Role.{Role}
 use Rattle.arrival.specs.declared.Role.TheVariants.{ReadInitiator, WriteInitiator, WriteTarget, ReadTarget}
 use Rattle.arrival.proofs.Passed.{arrived_in}
-use Rattle.arrival.proofs.Alike.{Agree, alike}
+use Rattle.arrival.proofs.Screens.{Agree}
+use Rattle.arrival.proofs.Alike.{alike}
 use Rattle.sender_steps.specs.declared.types.Sender.{Sender}
 use Rattle.receiver.specs.DataFrame.{arrival_of}
 use Rattle.receiver_steps.specs.DataFrame.{storing}

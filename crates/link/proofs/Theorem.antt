@@ -21,13 +21,12 @@ use Rattle.sender.proofs.Kept as sender-kept
 use Rattle.receiver.specs.Record as receiver
 use Rattle.receiver_steps.specs.Record as receiver-step
 use Rattle.receiver_steps.specs.declared.types.Receiver.{Receiver}
-use Rattle.receiver_steps.proofs.Held.{read_long}
 use Rattle.receiver.proofs.Kept as receiver-kept
 use Rattle.link.specs.World.{World}
 use Rattle.link.specs.Delivers.{fresh}
 use Rattle.link.specs.Claim.{Alike, Starts, Always, DeliveryClaim}
 use Rattle.link.specs.Reading.{read_ports}
-use Rattle.link.proofs.Setting.{Setting}
+use Rattle.link.proofs.ReadSetting.{setting}
 use Rattle.link.proofs.Flight.{Flight}
 use Rattle.link.proofs.Invariant.{Standing, Live, live}
 use Rattle.link.proofs.ReadSimulates.{read_simulates, read_sends, read_takes, read_filled}
@@ -46,49 +45,18 @@ read_only true e = absurd (false≢true e)
 read_only false e = refl
 
 module _ (t u : Transfer) (d b : List ℕ) (tl : limits_hold t ≡ true) (tr : t.write ≡ false) (ul : limits_hold u ≡ true) (ur : u.write ≡ false) (a : Alike t u) (on : 1 ≤ t.limit) (dl : length d ≡ t.count) (bl : past t ≤ length b) where
-  abbrev setting : Setting
-  setting =
-      record {
-        t = t;
-        u = u;
-        start = t.start;
-        base = t.start;
-        end = past t;
-        tptt = t.value;
-        limit = t.limit;
-        source = d;
-        before = b;
-        t_limits = tl;
-        u_limits = ul;
-        starts = refl;
-        there = a.there;
-        back = a.back;
-        tag = a.tag;
-        tag_bits = a.tag_bits;
-        tptt_bits = a.value_bits;
-        some = omega (arith, (bounds t tl).count_least);
-        base_least = omega arith;
-        end_most = omega arith;
-        on = on;
-        limit_most = omega arith;
-        u_on = omega (arith, a.limit);
-        source_length = dl;
-        long = read_long u (length b) ur (omega (arith, a.start, a.count));
-        reach = bl;
-      }
-
   abbrev sent_of : Sender
   sent_of = sender-step.beginning t (sender.whole t)
 
   abbrev got_of : Receiver
   got_of = receiver-step.beginning u u.start (past u)
 
-  begins : Live setting (read_simulates t.value) (fresh read_ports sent_of got_of d b)
+  begins : Live (setting t u d b tl tr ul ur a on dl bl) (read_simulates t.value) (fresh read_ports sent_of got_of d b)
   unfolding pick
   begins =
       let lt = bounds t tl in
       let z = zero-mul t.size in
-      live setting (read_simulates t.value) sent_of got_of false 0 0 0 0 (read_sends t.value sent_of tr)
+      live (setting t u d b tl tr ul ur a on dl bl) (read_simulates t.value) sent_of got_of false 0 0 0 0 (read_sends t.value sent_of tr)
       (record {
         takes = read_takes t.value got_of ur;
         send_for = record { transfer = refl; limit = refl; tptt = ap (λ (v : Bool). pick v 0 t.value) tr; base = refl; end = refl };

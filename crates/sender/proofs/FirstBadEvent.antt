@@ -1,117 +1,24 @@
 -- A failure's number is that of the first bad event of the attempt (`first_bad_event`).
-use Prim.Native.Nat.{ℕ, ◌≤◌}
+use Prim.Native.Nat.{ℕ}
 use mathlib.Core.List.{List, [], ◌∷◌}
-use mathlib.Core.Bool.{Bool, true, false, not, ◌&&◌, false≢true}
+use mathlib.Core.Bool.{Bool, true}
 use mathlib.Core.Path.{◌≡◌, refl, sym, ap, ap₂, ◌∙◌}
-use lib.Dec.{leb, ltb, eqb}
-use lib.ListN.{length}
-use borrow.Author.Tests.{lt-ltb, eqb-true}
 use Rattle.status.specs.Pick.{pick}
-use Rattle.status.specs.Entry.{entry_of}
-use Rattle.status.specs.Answer.{Word, Said, Left, ◌saying◌, refuses, fails, unless}
-use Rattle.status.specs.declared.entry.Entry.{Entry}
-use Rattle.status.specs.declared.entry.Entry.TheVariants.{Open, Closed}
-use Rattle.status.proofs.Leaves.{picked, unless_gives}
+use Rattle.status.specs.Answer.{Word, Said, Left, ◌saying◌, fails}
 use Rattle.status.proofs.OpenedCall.{differ}
-use Rattle.frame.specs.Write.{hands}
-use Rattle.sender_steps.specs.Record.{holds_of, lent_of}
-use Rattle.sender_steps.specs.Transmit.{waits_of, frame_of, sent_of}
-use Rattle.sender_steps.specs.Confirmation.{lowered_of, cause_of, retry_step_of}
+use Rattle.sender_steps.specs.Confirmation.{lowered_of, cause_of}
 use Rattle.sender_steps.specs.declared.types.Sender.{Sender}
-use Rattle.sender.specs.Transmit.{next_of}
-use Rattle.sender.specs.Confirmation.{confirms_of, cut_of}
 use Rattle.sender.specs.FirstBadEvent.{Call, asked, ack, nak, timeout, cut, told, number, after, OneAttempt, first_bad, FirstBadEvent}
-use Rattle.sender.proofs.Views.{Retried, retried, Settled, settled, answers}
+use Rattle.sender.proofs.Views.{retried, settled}
 use Rattle.sender.proofs.Ended.{next_ended, ack_ended, nak_ended, timeout_ended, cut_ended}
+use Rattle.sender.proofs.BadEvents.{bad, calm_no, Goes, calm, naks, retries, spent, same_28, no_bad, is_bad_lem, asks, begins, acks, naked, by_entry, cuts}
 
--- a call of the number k that answers a is a bad event
-abbrev bad : ℕ → Sender → Said → Bool
-bad k s a = ltb 0 k && ltb 0 s.unanswered && not (refuses a)
-
--- no failure
-abbrev Calm : Said → Type 0
-Calm a = fails a ≡ false
-
-calm_no : (a : Said) (n f : ℕ) → Calm a → a ≡ Said.failed n f → ⊥
-calm_no a n f o q = false≢true (sym o ∙ ap (λ (b : Said). fails b) q)
-
--- what a call of the number k leaves of the attempt
-data Goes (k : ℕ) (s : Sender) : Left Sender → Type 0 where
-  calm : (y : Sender) (a : Said) → y.nak ≡ s.nak → bad k s a ≡ false → Calm a → Goes k s (y saying a)
-  naks : (y : Sender) (a : Said) → y.nak ≡ true → bad k s a ≡ true → k ≡ 28 → Calm a → Goes k s (y saying a)
-  retries : (y : Sender) → Goes k s (y saying Said.word Word.retry)
-  spent : (y : Sender) (n f : ℕ) → y.ended ≡ true → n ≡ pick s.nak 28 k → Goes k s (y saying Said.failed n f)
-
-last_false : (a b : Bool) → (a && b && false) ≡ false
-last_false true true = refl
-last_false true false = refl
-last_false false b = refl
-
--- a choice, by its test
-same_28 : (b : Bool) → ◌≡◌ {A = ℕ} (pick b 28 28) 28
-unfolding pick
-same_28 true = refl
-same_28 false = refl
-
-no_bad : (m n : ℕ) (b : Bool) → b ≡ false → pick b m n ≡ n
-unfolding pick
-no_bad m n b e = rw e refl
-
-is_bad_lem : (m n : ℕ) (b : Bool) → b ≡ true → pick b m n ≡ m
-unfolding pick
-is_bad_lem m n b e = rw e refl
-
-module _ (s : Sender) where
-  refused : (k n : ℕ) → Goes k s (s saying Said.refused n)
-  refused k n = calm s _ refl (last_false (ltb 0 k) (ltb 0 s.unanswered)) refl
-
-  asks : (d out : List ℕ) → Goes 0 s (next_of s d out)
-  unfolding next_of hands sent_of
-  asks d out =
-      unless_gives (Goes 0 s) (entry_of (lent_of s (length d)) s.ended) s _ (refused 0)
-      (picked (Goes 0 s) (waits_of s) _ _ (calm s _ refl refl refl) (picked (Goes 0 s) (leb (length (frame_of s d)) (length out)) _ _ (calm _ _ refl refl refl) (refused 0 3)))
-
-  -- a retry that begins with cause c, at s with another count and NAK
-  begins : (k c : ℕ) (t : Sender) → c ≡ pick s.nak 28 k → {x : Left Sender} → Retried t c x → Goes k s x
-  begins k c t e (Retried.again l) = retries _
-  begins k c t e (Retried.spent l) = spent _ c t.frames refl e
-
-  -- an ACK that is taken
-  acks : {x : Left Sender} → Settled (lowered_of s s.nak) x → Goes 0 s x
-  acks (Settled.more m) = calm _ _ refl refl refl
-  acks (Settled.retries z p r) = begins 0 28 (lowered_of s s.nak) (sym (is_bad_lem 28 0 s.nak p)) r
-  acks (Settled.moves z p m) = calm _ _ refl refl refl
-  acks (Settled.delivers z p d) = calm _ _ refl refl refl
-
-  -- a NAK that is taken
-  naked : 1 ≤ s.unanswered → {x : Left Sender} → Settled (lowered_of s true) x → Goes 28 s x
-  naked l (Settled.more m) = naks _ (Said.word Word.taken) refl (ap (λ (t : Bool). t && true) (lt-ltb 0 s.unanswered l)) refl refl
-  naked l (Settled.retries z p r) = begins 28 28 (lowered_of s true) (sym (same_28 s.nak)) r
-  naked l (Settled.moves z p m) = differ (cc)
-  naked l (Settled.delivers z p d) = differ (cc)
-
-  -- answers: what is refused leaves the record
-  by_entry : (k : ℕ) (x : Left Sender) → (1 ≤ s.unanswered → Goes k s x) → Goes k s (unless (confirms_of s) s x)
-  by_entry k x f = go (confirms_of s) refl
-    where
-      go : (e : Entry) → confirms_of s ≡ e → Goes k s (unless e s x)
-      go Open e = f (answers s (sym e)).some
-      go (Closed why) e = refused k _
-
-  cuts : Goes 30 s (cut_of s)
-  unfolding pick
-  cuts = unless_gives (Goes 30 s) (entry_of (holds_of s) s.ended) s _ (refused 30) (go (eqb s.unanswered 0) refl)
-    where
-      go : (b : Bool) → eqb s.unanswered 0 ≡ b → Goes 30 s (pick b (s saying Said.word Word.unchanged) (retry_step_of s 30))
-      go true e = calm s (Said.word Word.unchanged) refl (ap (λ (u : ℕ). ltb 0 u && true) (eqb-true s.unanswered 0 e)) refl
-      go false e = begins 30 (cause_of s 30) s refl (retried s (cause_of s 30))
-
-  goes : (c : Call) → Goes (number c) s (told c s)
-  goes (asked d out) = asks d out
-  goes ack = by_entry 0 _ (λ l. acks (settled (lowered_of s s.nak)))
-  goes nak = by_entry 28 _ (λ l. naked l (settled (lowered_of s true)))
-  goes timeout = by_entry 29 _ (λ l. begins 29 (cause_of s 29) s refl (retried s (cause_of s 29)))
-  goes cut = cuts
+goes : (s : Sender) (c : Call) → Goes (number c) s (told c s)
+goes s (asked d out) = asks s d out
+goes s ack = by_entry s 0 _ (λ l. acks s (settled (lowered_of s s.nak)))
+goes s nak = by_entry s 28 _ (λ l. naked s l (settled (lowered_of s true)))
+goes s timeout = by_entry s 29 _ (λ l. begins s 29 (cause_of s 29) s refl (retried s (cause_of s 29)))
+goes s cut = cuts s
 
 -- an ended port fails no more
 refuses_all : (c : Call) (s : Sender) → s.ended ≡ true → (n : ℕ) × (told c s ≡ (s saying Said.refused n))

@@ -7,4 +7,5 @@ pub mod Ended
 pub mod Shape
 pub mod CarriesValue
 pub mod Retries
+pub mod BadEvents
 pub mod FirstBadEvent

@@ -2,7 +2,9 @@ pub mod Held
 pub mod Lowest
 pub mod Issue
 pub mod Views
+pub mod InSpan
 pub mod Timed
+pub mod TimedOnly
 pub mod ReadSteps
 pub mod Ended
 pub mod Kept

@@ -28,7 +28,8 @@ use Rattle.target.specs.declared.types.Target.{Target}
 use Rattle.target.proofs.Held.{held, lent, core_lent}
 use Rattle.target.proofs.Issue.{Due, due, burst_transfer}
 use Rattle.target.proofs.Views.{answers, Takes, Came, came}
-use Rattle.target.proofs.Timed.{InSpan, Below, Timed, timed}
+use Rattle.target.proofs.InSpan.{InSpan, Below}
+use Rattle.target.proofs.Timed.{Timed, timed}
 
 -- neither 1 nor 2 applies
 pub record Goes (x : Target) : Type 0 where
