@@ -210,13 +210,13 @@ fails 'no such file' "cannot read 'no/such file': No such file or directory" "$w
 fails 'standard input closed' 'standard input is closed' bash -c 'exec "$0" <&-' "$wrapper"
 fails 'standard output closed' 'standard output is closed' bash -c 'exec "$0" "$1" >&-' "$wrapper" "$paper"
 fails 'standard input only for writing' 'cannot read standard input: Bad file descriptor' bash -c 'exec "$0" 0>/dev/null' "$wrapper"
-printf 'read\t65536\t4\t64\t15\n' >"$tmp/large"
-fails 'a small stack' 'its stack, limited to 1400 kB, is too small' bash -c 'ulimit -s 1400; exec "$0" "$1"' "$wrapper" "$tmp/large"
+fails 'a small stack' 'its stack, limited to 1400 kB, is too small' bash -c 'ulimit -s 1400; exec "$0" "$1"' "$wrapper" "$paper"
 fails 'no temporary folder' "no temporary folder can be made in '/no/such'" env TMPDIR=/no/such "$wrapper" "$paper"
 fails 'a temporary file that cannot grow' "the output cannot be kept in '$TMPDIR/" bash -c 'ulimit -f 1; exec "$0" "$1"' "$wrapper" "$here/read_count_65536.run"
 status=0
 bash -c 'exec "$0" "$1" <&- 2>&-' "$wrapper" "$paper" >"$tmp/out" 2>"$tmp/err" || status=$?
 came 'a file, standard input and error closed' 0 "$examples/paper.ladder" ''
+printf 'read\t65536\t4\t64\t15\n' >"$tmp/large"
 set +e
 timeout 20 "$wrapper" "$tmp/large" 2>"$tmp/err" | head -c 1 >"$tmp/out"
 status=${PIPESTATUS[0]}

@@ -1,4 +1,4 @@
-// The ladder program: standard input to standard output. All that matters is in crate `ladder_print`; what was read and written no contract can say.
+// The ladder program: standard input to standard output. All that matters is in `ladder_print::print_ladder`; what was read and written no contract can say.
 #![tactic(auto)]
 
 ghost use Rattle.std.specs.Prelude.{◌≡◌, ◌≤◌, length, take};
@@ -52,29 +52,12 @@ fn write_whole(to: &mut impl Write, text: &[u8]) {
     }
 }
 
-// A ladder of any length. It stays a function of its own, so that its buffer is not in the frame of `main`.
-#[inline(never)]
-fn large(input: &[u8], to: &mut impl Write) {
-    let mut out = text_buffer();
-    let Printed::Text(len) = ladder_print::print_ladder(input, &mut out) else {
-        return;
-    };
-    write_whole(to, &out[..len]);
-}
-
-// A small ladder takes less time than zeros for the large buffer, so a small one is tried first, unless the input is long.
 fn main(rt: HostRuntime) {
-    let mut stdout = rt.stdout();
     let mut input = input_buffer();
     let n = read_full(&mut rt.stdin(), &mut input);
-    if 3_072 < n {
-        large(&input[..n], &mut stdout);
-        return;
-    }
-    let mut out = [0; 8_192];
-    let Printed::Text(len) = ladder_print::print_if_room(&input[..n], &mut out) else {
-        large(&input[..n], &mut stdout);
+    let mut out = text_buffer();
+    let Printed::Text(len) = ladder_print::print_ladder(&input[..n], &mut out) else {
         return;
     };
-    write_whole(&mut stdout, &out[..len]);
+    write_whole(&mut rt.stdout(), &out[..len]);
 }

@@ -67,8 +67,8 @@ module _ {fs d out₀ : List ℕ} {w : Whole} {b out : List ℕ} {l : Ladder} {a
     as_suc = omega arith
 
     -- a row was printed
-    pub climbing_row : {r : Row} {n : ℕ} {e : List ℕ} → at + 64 ≤ length out → x.line ≡ line.Row r → Puts out at (line_text (row_text r)) n e → Climbing fs d out₀ w c e x.ladder n (left - 1)
-    climbing_row {r} {n} {e} m p q =
+    pub climbing_row_if_room : {r : Row} {n : ℕ} {e : List ℕ} → at + 64 ≤ length out → x.line ≡ line.Row r → Puts out at (line_text (row_text r)) n e → Climbing fs d out₀ w c e x.ladder n (left - 1)
+    climbing_row_if_room {r} {n} {e} m p q =
         let rest = climb (left - 1) fs d x.ladder c in
         let s = line_text (row_text r) in
         let k : climb left fs d l b ≡ above r rest = ap (λ (v : ℕ). climb v fs d l b) as_suc ∙ goes_row fs d b l h (left - 1) p in
@@ -97,11 +97,22 @@ module _ {fs d out₀ : List ℕ} {w : Whole} {b out : List ℕ} {l : Ladder} {a
         }
 
   -- no line is to come: the verdict
-  pub climbed : {v : Verdict} {n : ℕ} {e : List ℕ} → left ≡ 0 → v ≡ verdict_of fs l → at + length (line_text (verdict_text v)) ≤ length out → Puts out at (line_text (verdict_text v)) n e → Puts out₀ 0 (whole_text fs w) n e
-  climbed {v} z p m q =
+  pub climbed_if_room : {v : Verdict} {n : ℕ} {e : List ℕ} → left ≡ 0 → v ≡ verdict_of fs l → at + length (line_text (verdict_text v)) ≤ length out → Puts out at (line_text (verdict_text v)) n e → Puts out₀ 0 (whole_text fs w) n e
+  climbed_if_room {v} z p m q =
       let k : climb left fs d l b ≡ climb zero fs d l b = ap (λ (j : ℕ). climb j fs d l b) z in
       let rows : g.text ≡ rows_text w.rows = sym (append-nil g.text) ∙ ap (λ (j : Whole). g.text ++ rows_text j.rows) (sym k) ∙ g.rows in
       let last : l ≡ w.last = ap (λ (j : Whole). j.last) (sym k) ∙ g.last in
       let whole : g.text ++ line_text (verdict_text v) ≡ whole_text fs w =
       (λ i. rows i ++ line_text (verdict_text ((p ∙ ap (verdict_of fs) last) i))) ∙ sym (lines_behind (map row_text w.rows) (verdict_text (verdict_of fs w.last) ∷ [])) in
       puts_as out₀ 0 whole (front_puts (front_more (line_text (verdict_text v)) g.front (omega (arith, out_length)) q))
+
+-- the same with room for every ladder
+module _ {fs d out₀ : List ℕ} {w : Whole} {b out : List ℕ} {l : Ladder} {at left : ℕ} (g : Climbing fs d out₀ w b out l at left) (enough : 1_340_284 ≤ length out₀) where
+  pub room_now : at + 64 ≤ length out
+  room_now = omega (arith, g.room, out_length g)
+
+  pub climbing_row : {x : Next} {c : List ℕ} (h : next_line_by x c ≡ line_of l fs d b) (some : 0 < left) {r : Row} {n : ℕ} {e : List ℕ} → x.line ≡ line.Row r → Puts out at (line_text (row_text r)) n e → Climbing fs d out₀ w c e x.ladder n (left - 1)
+  climbing_row h some p q = climbing_row_if_room g h some room_now p q
+
+  pub climbed : {v : Verdict} {n : ℕ} {e : List ℕ} → left ≡ 0 → v ≡ verdict_of fs l → at + length (line_text (verdict_text v)) ≤ length out₀ → Puts out at (line_text (verdict_text v)) n e → Puts out₀ 0 (whole_text fs w) n e
+  climbed z p m q = climbed_if_room g z p (omega (arith, m, out_length g)) q

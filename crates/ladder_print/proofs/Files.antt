@@ -19,6 +19,11 @@ use Rattle.ladder_text.specs.declared.types.Run.{Run}
 use Rattle.ladder_text.specs.declared.types.RunFile.TheVariants as file
 use Rattle.ladder_text.proofs.Choose.{each}
 use Rattle.ladder_text.proofs.FileLaws.{files_print_again, few_fates}
+use Rattle.ladder_text.specs.Place.{Puts}
+use Rattle.ladder_text.specs.declared.types.RunFile.{RunFile}
+use Rattle.ladder_print.specs.Text.{TEXT-MOST, of_file, text_of, Prints}
+use Rattle.ladder_print.specs.declared.types.Printed.TheVariants.{Text}
+use Rattle.ladder_print.proofs.Tried as tried
 
 direction_least : (d : Direction) → 4 ≤ length (direction_word d)
 direction_least Read = omega arith
@@ -46,3 +51,7 @@ thirds b r at e = omega (arith, few_fates b r at e)
 
 pub count_most : (b : List ℕ) (r : Run) (at : ℕ) → file_of b ≡ file.Run r at → r.count ≤ 65_536
 count_most b r at e = leb-true r.count 65_536 (each (limits r) (files_print_again b r at e).0).1.0
+
+-- a text of any file, with room for every ladder
+pub printed : (b d : List ℕ) {f : RunFile} {n : ℕ} {e : List ℕ} → TEXT-MOST ≤ length d → f ≡ file_of b → Puts d 0 (of_file f b) n e → n ≤ TEXT-MOST → Prints (text_of b) d (Text n) e
+printed b d {n = n} m p h k = tried.printed (Text n) m (tried.tries_file b p (tried.tries_text h k))

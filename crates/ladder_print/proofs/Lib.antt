@@ -1,5 +1,5 @@
 pub mod Behind
 pub mod Filled
 pub mod Climbing
-pub mod Files
 pub mod Tried
+pub mod Files

@@ -1,10 +1,9 @@
-use Rattle.std.proofs.Common.{arith, ℕ}
-use Rattle.std.proofs.lemmas.List.{length-replicate}
-use Rattle.ladder_print.proofs.Tried.{room_within}
+use Rattle.std.proofs.Common.{arith}
+use Rattle.ladder_print.proofs.Tried.{within, text_taken}
 use Rattle.ladder.proofs.main.Goals as goal
 
 pub slice_bounds-out-end : goal.slice_bounds-out-end
-slice_bounds-out-end c = omega (arith, (room_within c.print_if_room.ensures c.in-Text.is).0, c.print_if_room.auto.out, length-replicate {A = ℕ} 8_192 0)
+slice_bounds-out-end c = omega (arith, within c.print_ladder.ensures (omega (arith, c.text_buffer-out.ensures)) c.in-Text.is, c.print_ladder.auto.out)
 
 pub slice_bounds-write_whole-end : goal.slice_bounds-write_whole-end
-slice_bounds-write_whole-end c = (room_within c.print_if_room.ensures c.in-Text.is).1
+slice_bounds-write_whole-end c = text_taken c.print_ladder.ensures (omega (arith, c.text_buffer-out.ensures)) c.in-Text.is

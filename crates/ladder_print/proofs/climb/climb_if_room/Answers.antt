@@ -1,5 +1,5 @@
 use Rattle.std.proofs.Common.{refl, arith}
-use Rattle.ladder_print.proofs.Climbing.{climbing_first, climbing_row, climbing_over, climbing_short, climbed, out_length}
+use Rattle.ladder_print.proofs.Climbing.{climbing_first, climbing_row_if_room, climbing_over, climbing_short, climbed_if_room, out_length}
 use Rattle.ladder_print.proofs.Tried.{tries_text, tries_short}
 use Rattle.ladder_print.proofs.climb.climb_if_room.Goals as goal
 
@@ -16,7 +16,7 @@ pub loop-left-preserved-in-Row : goal.loop-left-preserved-in-Row
 loop-left-preserved-in-Row c =
     let g = c.loop-left.invariant.1 in
     let s = out_length g in
-    (omega arith, climbing_row g c.next_line-x.ensures c.loop-left-test.true (omega (arith, g.within)) c.in-Row.is c.row-at.ensures)
+    (omega arith, climbing_row_if_room g c.next_line-x.ensures c.loop-left-test.true (omega (arith, g.within)) c.in-Row.is c.row-at.ensures)
 
 pub loop-left-preserved : goal.loop-left-preserved
 loop-left-preserved c = (omega arith, climbing_over c.loop-left.invariant.1 c.next_line-x.ensures c.loop-left-test.true c.in-Verdict.is)
@@ -32,4 +32,4 @@ returns c =
     let g = c.loop-left.invariant.1 in
     let s = out_length g in
     let p = c.verdict-2.ensures in
-    tries_text (climbed g (omega arith) c.verdict.ensures (omega (arith, p.1, g.within)) p.0) (omega (arith, p.0.0, p.1, g.room))
+    tries_text (climbed_if_room g (omega arith) c.verdict.ensures (omega (arith, p.1, g.within)) p.0) (omega (arith, p.0.0, p.1, g.room))

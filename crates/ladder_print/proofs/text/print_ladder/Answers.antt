@@ -1,8 +1,7 @@
 use Rattle.std.proofs.Common.{sym, ◌∙◌, arith}
 use Rattle.ladder_print.specs.Text.{text_of}
-use Rattle.ladder_print.specs.declared.types.Printed.TheVariants.{Text}
-use Rattle.ladder_print.proofs.Files.{few, count_most}
-use Rattle.ladder_print.proofs.Tried.{no_room, printed, tries_text, tries_file}
+use Rattle.ladder_print.proofs.Files.{few, count_most, printed}
+use Rattle.ladder_print.proofs.Tried.{no_room}
 use Rattle.ladder_print.proofs.text.print_ladder.Goals as goal
 
 pub returns-then-out-lt-TEXT_MOST : goal.returns-then-out-lt-TEXT_MOST
@@ -15,8 +14,8 @@ run-requires c =
 
 pub returns-in-Refused : goal.returns-in-Refused
 returns-in-Refused c =
-    printed (Text _) c.if-out-lt-TEXT_MOST.false (tries_file c.args.input.now (sym c.in-Refused.is ∙ c.read_run_file.ensures) (tries_text c.refused.ensures.0 c.refused.ensures.1))
+    printed c.args.input.now c.args.out.now c.if-out-lt-TEXT_MOST.false (sym c.in-Refused.is ∙ c.read_run_file.ensures) c.refused.ensures.0 c.refused.ensures.1
 
 pub returns-in-Run : goal.returns-in-Run
 returns-in-Run c =
-    printed (Text _) c.if-out-lt-TEXT_MOST.false (tries_file c.args.input.now (sym c.in-Run.is ∙ c.read_run_file.ensures) (tries_text c.run.ensures.0 c.run.ensures.1))
+    printed c.args.input.now c.args.out.now c.if-out-lt-TEXT_MOST.false (sym c.in-Run.is ∙ c.read_run_file.ensures) c.run.ensures.0 c.run.ensures.1

@@ -1,9 +1,0 @@
-use Rattle.std.proofs.Common.{arith}
-use Rattle.ladder_print.proofs.Tried.{within, text_taken}
-use Rattle.ladder.proofs.large.Goals as goal
-
-pub slice_bounds-out-end : goal.slice_bounds-out-end
-slice_bounds-out-end g c = omega (arith, within c.print_ladder.ensures (omega (arith, c.text_buffer-out.ensures)) c.in-Text.is, c.print_ladder.auto.out)
-
-pub slice_bounds-write_whole-end : goal.slice_bounds-write_whole-end
-slice_bounds-write_whole-end g c = text_taken c.print_ladder.ensures (omega (arith, c.text_buffer-out.ensures)) c.in-Text.is
