@@ -8,7 +8,7 @@ use native.Mathlib.Omega.{arith}
 use lib.ListN.{length, take}
 use Rattle.status.specs.Pick.{pick, if_any}
 use Rattle.status.specs.Answer.{Word, Said, view, Left, ◌saying◌, unless}
-use Rattle.status.specs.declared.entry.Entry.{Entry}
+use Rattle.status.specs.Entry.{Entry}
 use Rattle.status.proofs.Leaves.{picked, unless_gives}
 use Rattle.frame.specs.Format.{header_bytes, encode}
 use Rattle.frame.specs.Read.{header_in}

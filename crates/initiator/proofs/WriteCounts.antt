@@ -10,7 +10,7 @@ use Rattle.frame.specs.Write.{hands}
 use Rattle.status.specs.Pick.{pick, ◌with◌}
 use Rattle.status.specs.Entry.{entry_of}
 use Rattle.status.specs.Answer.{Word, Taking, Said, Left, ◌saying◌, refuses, unless}
-use Rattle.status.specs.declared.entry.Entry.{Entry}
+use Rattle.status.specs.Entry.{Entry}
 use Rattle.status.proofs.Leaves.{picked, unless_gives, refusing}
 use Rattle.sender_steps.specs.Fields.{unanswered≔}
 use Rattle.sender_steps.specs.Transmit.{frame_of}

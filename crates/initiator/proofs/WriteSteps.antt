@@ -12,8 +12,8 @@ use Rattle.status.specs.Number.{refusal_number}
 use Rattle.status.specs.Result.{Result}
 use Rattle.status.specs.Answer.{Word, Said, Left, ◌saying◌, refuses, unless}
 use Rattle.status.specs.declared.words.Refusal.{Refusal}
-use Rattle.status.specs.declared.entry.Entry.{Entry}
-use Rattle.status.specs.declared.entry.Entry.TheVariants.{Open, Closed}
+use Rattle.status.specs.Entry.{Entry}
+use Rattle.std.specs.Prelude.{Ok, Err}
 use Rattle.status.specs.declared.words.Refusal.TheVariants.{AnswerWithoutFrame}
 use Rattle.status.proofs.Choose.{in_true, in_false}
 use Rattle.status.proofs.Leaves.{picked}
@@ -100,39 +100,39 @@ module _ (w : Writer) where
   abbrev some : Bool
   some = not (eqb w.sender.unanswered 0)
 
-  entered : entry_of (holds_of w) w.sender.ended ≡ Open → ack_of w ≡ pick (held_up w) (counted_of w (w.sender.unanswered - 1)) (lifted_of w (confirmation.ack_of w.sender))
+  entered : entry_of (holds_of w) w.sender.ended ≡ (Ok tt) → ack_of w ≡ pick (held_up w) (counted_of w (w.sender.unanswered - 1)) (lifted_of w (confirmation.ack_of w.sender))
   unfolding confirmed_of
   entered e = rw e refl
 
-  answers : (x : Entry) → entry_of (holds_of w) w.sender.ended ≡ Open → and_some Open some ≡ x → confirmation.confirms_of w.sender ≡ x
+  answers : (x : Entry) → entry_of (holds_of w) w.sender.ended ≡ (Ok tt) → and_some (Ok tt) some ≡ x → confirmation.confirms_of w.sender ≡ x
   unfolding confirmation.confirms_of confirmable_of
   answers x e q =
       let o = opened _ _ (sym e) in
       ap (λ (v : Entry). and_some v some) (open_entry _ _ (held w o.0).holds o.1) ∙ q
 
-  pub ack_closed : (why : Refusal) → confirmable_of (holds_of w) w.sender.ended some ≡ Closed why → ack_of w ≡ (w saying Said.refused (refusal_number why))
+  pub ack_closed : (why : Refusal) → confirmable_of (holds_of w) w.sender.ended some ≡ Err why → ack_of w ≡ (w saying Said.refused (refusal_number why))
   unfolding confirmed_of confirmable_of pick
   ack_closed why = go (entry_of (holds_of w) w.sender.ended) refl
     where
-      go : (x : Entry) → entry_of (holds_of w) w.sender.ended ≡ x → and_some x some ≡ Closed why → ack_of w ≡ (w saying Said.refused (refusal_number why))
-      go (Closed y) e q = rw e (ap (λ (v : Entry). unless v w (w saying Said.word Word.wait)) q)
-      go Open e q = zero (eqb w.sender.unanswered 0) refl
+      go : (x : Entry) → entry_of (holds_of w) w.sender.ended ≡ x → and_some x some ≡ Err why → ack_of w ≡ (w saying Said.refused (refusal_number why))
+      go (Err y) e q = rw e (ap (λ (v : Entry). unless v w (w saying Said.word Word.wait)) q)
+      go (Ok tt) e q = zero (eqb w.sender.unanswered 0) refl
         where
           zero : (z : Bool) → eqb w.sender.unanswered 0 ≡ z → ack_of w ≡ (w saying Said.refused (refusal_number why))
           zero false f = differ (cc)
           zero true f =
-              let s4 : and_some Open some ≡ Closed AnswerWithoutFrame = rw f refl in
+              let s4 : and_some (Ok tt) some ≡ Err AnswerWithoutFrame = rw f refl in
               let u : held_up w ≡ false = rw f (none_held_up w.pending) in
-              let a : confirmation.confirms_of w.sender ≡ Closed why = answers (Closed why) e q in
+              let a : confirmation.confirms_of w.sender ≡ Err why = answers (Err why) e q in
               entered e ∙ rw (u, a) refl
 
-  pub ack_counted : confirmable_of (holds_of w) w.sender.ended some ≡ Open → held_up w ≡ true → ack_of w ≡ counted_of w (w.sender.unanswered - 1)
+  pub ack_counted : confirmable_of (holds_of w) w.sender.ended some ≡ (Ok tt) → held_up w ≡ true → ack_of w ≡ counted_of w (w.sender.unanswered - 1)
   unfolding pick
   ack_counted e u = let o = confirmable _ _ _ (sym e) in entered (open_entry _ _ o.0 o.1) ∙ rw u refl
 
-  pub ack_lifted : confirmable_of (holds_of w) w.sender.ended some ≡ Open → held_up w ≡ false → ack_of w ≡ lifted_of w (ack_step_of w.sender)
+  pub ack_lifted : confirmable_of (holds_of w) w.sender.ended some ≡ (Ok tt) → held_up w ≡ false → ack_of w ≡ lifted_of w (ack_step_of w.sender)
   unfolding pick
   ack_lifted e u =
       let o = confirmable _ _ _ (sym e) in
       let i = open_entry _ _ o.0 o.1 in
-      entered i ∙ rw (u, answers Open i (rw o.2 refl)) refl
+      entered i ∙ rw (u, answers (Ok tt) i (rw o.2 refl)) refl

@@ -9,8 +9,8 @@ use lib.Dec.{leb}
 use borrow.Author.Tests.{leb-true}
 use Rattle.status.specs.Pick.{pick}
 use Rattle.status.specs.Answer.{Word, Said, Left, ◌saying◌, refuses, unless}
-use Rattle.status.specs.declared.entry.Entry.{Entry}
-use Rattle.status.specs.declared.entry.Entry.TheVariants.{Open, Closed}
+use Rattle.status.specs.Entry.{Entry}
+use Rattle.std.specs.Prelude.{Ok, Err}
 use Rattle.status.specs.Entry.{entry_of}
 use Rattle.frame.specs.Write.{hands}
 use Rattle.sender.specs.Transmit as sender
@@ -44,8 +44,8 @@ pick_fits n true x y p q = p
 pick_fits n false x y p q = q
 
 unless_fits : {X : Type 0} (n : ℕ) (e : Entry) (x : X) (y : Left X) → Fits n y → Fits n (unless e x y)
-unless_fits n Open x y p = p
-unless_fits n (Closed why) x y p = record { fits = omega arith }
+unless_fits n (Ok tt) x y p = p
+unless_fits n (Err why) x y p = record { fits = omega arith }
 
 wait_fits : {X : Type 0} (n : ℕ) (x : X) → Fits n (x saying Said.word Word.wait)
 wait_fits n x = record { fits = omega arith }

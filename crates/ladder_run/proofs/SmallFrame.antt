@@ -11,8 +11,8 @@ use Rattle.status.specs.Pick.{pick}
 use Rattle.status.specs.Entry.{entry_of}
 use Rattle.status.specs.Answer.{Word, Said, Left, ◌saying◌, unless}
 use Rattle.status.specs.Result.{Result}
-use Rattle.status.specs.declared.entry.Entry.{Entry}
-use Rattle.status.specs.declared.entry.Entry.TheVariants.{Open, Closed}
+use Rattle.status.specs.Entry.{Entry}
+use Rattle.std.specs.Prelude.{Ok, Err}
 use Rattle.status.proofs.Choose.{each}
 use Rattle.status.proofs.Leaves.{picked, unless_gives}
 use Rattle.status.proofs.OpenedCall.{opened}
@@ -64,10 +64,10 @@ module _ (s : Sender) (d out : List ℕ) where
   next_hands = go (entry_of (lent_of s (length d)) s.ended) (waits_of s) (leb (length (frame_of s d)) (length out)) refl refl
     where
       go : (e : Entry) (w t : Bool) → e ≡ entry_of (lent_of s (length d)) s.ended → waits_of s ≡ w → Hands (past s.transfer) (frame_of s d) (unless e s (pick w (s saying Said.word Word.wait) (pick t (sent_of s saying Said.frame (length (frame_of s d))) (s saying Said.refused 3)))).says
-      go (Closed why) w t p q = Hands.nothing refl
-      go Open true t p q = Hands.nothing refl
-      go Open false false p q = Hands.nothing refl
-      go Open false true p q = Hands.frame (due_offset (opened _ _ (p)).0 q)
+      go (Err why) w t p q = Hands.nothing refl
+      go (Ok tt) true t p q = Hands.nothing refl
+      go (Ok tt) false false p q = Hands.nothing refl
+      go (Ok tt) false true p q = Hands.frame (due_offset (opened _ _ (p)).0 q)
 
   read_hands : Hands (past s.transfer) (frame_of s d) (read_next_of s d out).says
   read_hands = picked (λ (x : Left Sender). Hands (past s.transfer) (frame_of s d) x.says) s.transfer.write _ _ (Hands.nothing refl) next_hands

@@ -12,8 +12,8 @@ use Rattle.status.specs.Result.{Result}
 use Rattle.status.specs.declared.answer.Opened.{Opened}
 use Rattle.status.specs.declared.words.Refusal.{Refusal}
 use Rattle.status.specs.declared.words.Refusal.TheVariants.{BadRequest, TransferEnded, FrameSpaceShort, AnswerWithoutFrame, MalformedFrame, UnexpectedFrameType, WrongAddress, UnknownTag}
-use Rattle.status.specs.declared.entry.Entry.{Entry}
-use Rattle.status.specs.declared.entry.Entry.TheVariants.{Open, Closed}
+use Rattle.status.specs.Entry.{Entry}
+use Rattle.std.specs.Prelude.{Ok, Err}
 use Rattle.status.proofs.Leaves.{picked}
 use Rattle.transfer.specs.declared.Transfer.{Transfer}
 use Rattle.frame.specs.Format.{is_type}
@@ -60,8 +60,8 @@ refusal_most WrongAddress = omega arith
 refusal_most UnknownTag = omega arith
 
 entered : {X : Type 0} (e : Entry) (x : X) (y : Left X) → Numbered y.says → Numbered (unless e x y).says
-entered Open x y h = h
-entered (Closed why) x y h = refusal_most why
+entered (Ok tt) x y h = h
+entered (Err why) x y h = refusal_most why
 
 -- an outcome's number, if it is one
 abbrev Within : {X : Type 0} → Result X → Type 0

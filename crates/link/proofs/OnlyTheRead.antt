@@ -9,8 +9,8 @@ use lib.ListN.{length, length-take, length-drop}
 use Rattle.status.specs.Entry.{entry_of}
 use Rattle.status.specs.Answer.{Left, unless}
 use Rattle.status.specs.Result.{Result}
-use Rattle.status.specs.declared.entry.Entry.{Entry}
-use Rattle.status.specs.declared.entry.Entry.TheVariants.{Open, Closed}
+use Rattle.status.specs.Entry.{Entry}
+use Rattle.std.specs.Prelude.{Ok, Err}
 use Rattle.status.proofs.OpenedCall.{opened}
 use Rattle.status.proofs.Leaves.{unless_gives}
 use Rattle.frame.specs.Read.{header_in, iu_length, iu_of}
@@ -66,11 +66,11 @@ module _ (r : Receiver) (b : List ℕ) where
   core offset cdp iu = go (entry_of (lent_of r (length b)) r.ended) (disposition_of r offset cdp (length iu)) refl refl
     where
       go : (e : Entry) (v : DataDisposition) → e ≡ entry_of (lent_of r (length b)) r.ended → disposition_of r offset cdp (length iu) ≡ v → Same (storing (unless e r (handled v r offset (length iu))).says offset iu b)
-      go (Closed w) v p q = same
-      go Open Discard p q = same
-      go Open Skip p q = same
-      go Open (Fail w) p q = same
-      go Open Store p q = subst Same (sym (put_down _ offset iu b)) (put offset iu (opened _ _ p).0 (stored offset cdp (length iu) q))
+      go (Err w) v p q = same
+      go (Ok tt) Discard p q = same
+      go (Ok tt) Skip p q = same
+      go (Ok tt) (Fail w) p q = same
+      go (Ok tt) Store p q = subst Same (sym (put_down _ offset iu b)) (put offset iu (opened _ _ p).0 (stored offset cdp (length iu) q))
 
   -- a frame that has passed 5 to 8
   module _ (f : List ℕ) (inside : 24 + iu_length f ≤ length f) where

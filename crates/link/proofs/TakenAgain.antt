@@ -12,8 +12,8 @@ use Rattle.status.specs.Pick.{pick, all}
 use Rattle.status.specs.Entry.{entry_of}
 use Rattle.status.specs.Answer.{Left, unless}
 use Rattle.status.specs.Result.{Result}
-use Rattle.status.specs.declared.entry.Entry.{Entry}
-use Rattle.status.specs.declared.entry.Entry.TheVariants.{Open, Closed}
+use Rattle.status.specs.Entry.{Entry}
+use Rattle.std.specs.Prelude.{Ok, Err}
 use Rattle.status.proofs.OpenedCall.{differ}
 use Rattle.transfer.specs.declared.Transfer.{Transfer}
 use Rattle.frame.specs.Read.{fill_count, header_in, well_formed, iu_length, iu_of}
@@ -96,8 +96,8 @@ module _ (w : Writer) (f : List ℕ) (t : takes (write_arrival_of w f).says ≡ 
         ∙ go (entry_of (holds_of v) v.sender.ended) v _ _ refl
       where
         go : (e : Entry) (v : Writer) (y z : Left Writer) → y.says ≡ z.says → (unless e v y).says ≡ (unless e v z).says
-        go Open v y z p = p
-        go (Closed why) v y z p = refl
+        go (Ok tt) v y z p = p
+        go (Err why) v y z p = refl
 
   keep : {v u : Writer} → Keeps v u → Standing v → Standing u
   keep k s = record { transfer = k.transfer ∙ s.transfer; base = ap (λ (b : Burst). b.base) k.burst ∙ s.base; end = ap (λ (b : Burst). b.end) k.burst ∙ s.end }

@@ -6,8 +6,8 @@ use mathlib.Core.Path.{◌≡◌, refl}
 use lib.ListN.{length}
 use Rattle.status.specs.Entry.{entry_of}
 use Rattle.status.specs.Answer.{unless}
-use Rattle.status.specs.declared.entry.Entry.{Entry}
-use Rattle.status.specs.declared.entry.Entry.TheVariants.{Open, Closed}
+use Rattle.status.specs.Entry.{Entry}
+use Rattle.std.specs.Prelude.{Ok, Err}
 use Rattle.status.proofs.OpenedCall.{opened}
 use Rattle.receiver_steps.specs.Record.{lent_of}
 use Rattle.receiver_steps.specs.DataFrame.{disposition_of, taken_of, storing}
@@ -23,8 +23,8 @@ unfolding arrival_of
 storing_length r offset cdp iu d = go (entry_of (lent_of r (length d)) r.ended) (disposition_of r offset cdp (length iu)) refl refl
   where
     go : (e : Entry) (v : DataDisposition) → e ≡ entry_of (lent_of r (length d)) r.ended → disposition_of r offset cdp (length iu) ≡ v → length (storing (unless e r (taken_of v r offset (length iu))).says offset iu d) ≡ length d
-    go (Closed w) v p q = refl
-    go Open Discard p q = refl
-    go Open Skip p q = refl
-    go Open (Fail w) p q = refl
-    go Open Store p q = rw put_down (placed_length d offset iu (room r offset cdp (length iu) (length d) (opened _ _ p).0 q))
+    go (Err w) v p q = refl
+    go (Ok tt) Discard p q = refl
+    go (Ok tt) Skip p q = refl
+    go (Ok tt) (Fail w) p q = refl
+    go (Ok tt) Store p q = rw put_down (placed_length d offset iu (room r offset cdp (length iu) (length d) (opened _ _ p).0 q))

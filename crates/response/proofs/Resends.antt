@@ -11,8 +11,8 @@ use borrow.Author.Tests.{ltb-true, ltb-false, lt-ltb, le-ltb, eq-eqb}
 use Rattle.status.specs.Pick.{pick, ◌with◌}
 use Rattle.status.specs.Entry.{confirmable_of}
 use Rattle.status.specs.Answer.{Word, Said, ◌saying◌, unless}
-use Rattle.status.specs.declared.entry.Entry.{Entry}
-use Rattle.status.specs.declared.entry.Entry.TheVariants.{Open as open-entry-is, Closed}
+use Rattle.status.specs.Entry.{Entry}
+use Rattle.std.specs.Prelude.{Ok, Err}
 use Rattle.status.specs.declared.words.Refusal.TheVariants.{AnswerWithoutFrame}
 use Rattle.status.proofs.OpenedCall.{open_entry, open_confirmable}
 use Rattle.frame.specs.Format.{encode}
@@ -41,7 +41,7 @@ most_within x l = go (ltb x.retries x.transfer.limit) refl
 
 module _ (x : Responder) (o : Open x) where
   module _ (u : x.unanswered ≡ true) where
-    confirms : confirms_of x ≡ open-entry-is
+    confirms : confirms_of x ≡ (Ok tt)
     unfolding confirms_of
     confirms = open_confirmable _ _ _ o.holds o.live u
 
@@ -61,7 +61,7 @@ module _ (x : Responder) (o : Open x) where
     cuts = subst (Retry x 30) (sym cut_is) (retry 30)
 
   module _ (r : x.unanswered ≡ false) where
-    four : confirms_of x ≡ Closed AnswerWithoutFrame
+    four : confirms_of x ≡ Err AnswerWithoutFrame
     unfolding confirms_of confirmable_of pick
     four = rw (open_entry _ _ o.holds o.live, r) refl
 

@@ -3,7 +3,7 @@ use Rattle.std.specs.Prelude.{ℕ, ◌+◌, false, ltb}
 use Rattle.status.specs.Pick.{pick, ◌with◌}
 use Rattle.status.specs.Entry.{entry_of, confirmable_of}
 use Rattle.status.specs.Answer.{Word, Said, Left, ◌saying◌, unless}
-use Rattle.status.specs.declared.entry.Entry.{Entry}
+use Rattle.status.specs.Entry.{Entry}
 use Rattle.response.specs.Fields.{unanswered≔, retries≔}
 use Rattle.response.specs.Record.{most_of, holds_of, ended_of}
 use Rattle.response.specs.declared.types.Responder.{Responder}

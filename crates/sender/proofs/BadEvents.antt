@@ -9,8 +9,8 @@ use borrow.Author.Tests.{lt-ltb, eqb-true}
 use Rattle.status.specs.Pick.{pick}
 use Rattle.status.specs.Entry.{entry_of}
 use Rattle.status.specs.Answer.{Word, Said, Left, ◌saying◌, refuses, fails, unless}
-use Rattle.status.specs.declared.entry.Entry.{Entry}
-use Rattle.status.specs.declared.entry.Entry.TheVariants.{Open, Closed}
+use Rattle.status.specs.Entry.{Entry}
+use Rattle.std.specs.Prelude.{Ok, Err}
 use Rattle.status.proofs.Leaves.{picked, unless_gives}
 use Rattle.status.proofs.OpenedCall.{differ}
 use Rattle.frame.specs.Write.{hands}
@@ -93,8 +93,8 @@ module _ (s : Sender) where
   by_entry k x f = go (confirms_of s) refl
     where
       go : (e : Entry) → confirms_of s ≡ e → Goes k s (unless e s x)
-      go Open e = f (answers s (sym e)).some
-      go (Closed why) e = refused k _
+      go (Ok tt) e = f (answers s (sym e)).some
+      go (Err why) e = refused k _
 
   pub cuts : Goes 30 s (cut_of s)
   unfolding pick

@@ -7,7 +7,7 @@ use lib.ListN.{length, length-append}
 use Rattle.frame.specs.Write.{hands}
 use Rattle.status.specs.Entry.{entry_of}
 use Rattle.status.specs.Answer.{Left, unless}
-use Rattle.status.specs.declared.entry.Entry.{Entry}
+use Rattle.status.specs.Entry.{Entry}
 use Rattle.status.proofs.Leaves.{unless_gives}
 use Rattle.sender_steps.specs.Record.{holds_of, lent_of}
 use Rattle.sender_steps.specs.Transmit.{frame_of, sent_of}

@@ -8,7 +8,7 @@ use Rattle.status.specs.Entry.{entry_of}
 use Rattle.status.specs.Pick.{pick}
 use Rattle.status.specs.Number.{refusal_number}
 use Rattle.status.specs.Answer.{Word, Said, Left, ◌saying◌}
-use Rattle.status.specs.declared.entry.Entry.TheVariants.{Open, Closed}
+use Rattle.std.specs.Prelude.{Ok, Err}
 use Rattle.status.specs.declared.words.Refusal.{Refusal}
 use Rattle.frame.specs.Write.{handing}
 use Rattle.frame.proofs.Hands as frame
@@ -20,15 +20,15 @@ use Rattle.sender_steps.specs.declared.types.Sender.{Sender}
 use Rattle.sender.proofs.Counting.{next_counts}
 
 module _ (s : Sender) (d out : List ℕ) where
-  pub next_closed : (why : Refusal) → entry_of (lent_of s (length d)) s.ended ≡ Closed why → next_of s d out ≡ (s saying Said.refused (refusal_number why))
+  pub next_closed : (why : Refusal) → entry_of (lent_of s (length d)) s.ended ≡ Err why → next_of s d out ≡ (s saying Said.refused (refusal_number why))
   unfolding next_of
   next_closed why e = rw e refl
 
-  pub next_waits : entry_of (lent_of s (length d)) s.ended ≡ Open → waits_of s ≡ true → next_of s d out ≡ (s saying Said.word Word.wait)
+  pub next_waits : entry_of (lent_of s (length d)) s.ended ≡ (Ok tt) → waits_of s ≡ true → next_of s d out ≡ (s saying Said.word Word.wait)
   unfolding next_of pick
   next_waits e w = rw (e, w) refl
 
-  pub next_due : entry_of (lent_of s (length d)) s.ended ≡ Open → waits_of s ≡ false → next_of s d out ≡ hands_of s d out
+  pub next_due : entry_of (lent_of s (length d)) s.ended ≡ (Ok tt) → waits_of s ≡ false → next_of s d out ≡ hands_of s d out
   unfolding next_of pick
   next_due e w = rw (e, w) refl
 

@@ -11,7 +11,7 @@ use borrow.Author.Tests.{le-leb, lt-leb, leb-true, leb-false, eq-eqb, ne_eqb}
 use Rattle.status.specs.Pick.{pick, ◌with◌}
 use Rattle.status.specs.Entry.{entry_of}
 use Rattle.status.specs.Answer.{Word, Said, Left, ◌saying◌}
-use Rattle.status.specs.declared.entry.Entry.TheVariants.{Open as open-entry-is}
+use Rattle.std.specs.Prelude.{Ok}
 use Rattle.status.proofs.OpenedCall.{differ, open_entry}
 use Rattle.frame.specs.Write.{hands}
 use Rattle.sender_steps.specs.Fields.{balance≔, unanswered≔, nak≔, retries≔, ended≔}
@@ -154,7 +154,7 @@ module _ (s : Sender) (o : Open s) where
 
   -- a frame asked for, with the data buffer that the record needs
   module _ (d out : List ℕ) (e : length d ≡ s.transfer.count) where
-    opened : entry_of (lent_of s (length d)) s.ended ≡ open-entry-is
+    opened : entry_of (lent_of s (length d)) s.ended ≡ (Ok tt)
     opened = open_entry _ _ (lent_again s (length d) o.holds e) o.live
 
     waits : Waits s → next_of s d out ≡ (s saying Said.word Word.wait)

@@ -10,7 +10,7 @@ use Rattle.frame.specs.Write.{hands}
 use Rattle.status.specs.Pick.{pick}
 use Rattle.status.specs.Entry.{entry_of}
 use Rattle.status.specs.Answer.{Left, unless}
-use Rattle.status.specs.declared.entry.Entry.{Entry}
+use Rattle.status.specs.Entry.{Entry}
 use Rattle.status.proofs.Leaves.{picked, unless_gives}
 use Rattle.sender_steps.specs.Record.{holds_of, lent_of}
 use Rattle.sender_steps.specs.Transmit.{sent_of}

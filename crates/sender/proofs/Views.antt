@@ -12,7 +12,7 @@ use Rattle.frame.specs.Write.{hands as due-frame}
 use Rattle.status.specs.Pick.{pick}
 use Rattle.status.specs.Entry.{entry_of, confirmable_of}
 use Rattle.status.specs.Answer.{Word, Said, Left, ◌saying◌}
-use Rattle.status.specs.declared.entry.Entry.TheVariants.{Open, Closed}
+use Rattle.std.specs.Prelude.{Ok, Err}
 use Rattle.status.specs.declared.words.Refusal.TheVariants.{AnswerWithoutFrame}
 use Rattle.status.proofs.OpenedCall.{open_entry, open_confirmable, confirmed}
 use Rattle.sender_steps.specs.Record.{holds_of, lent_of}
@@ -38,7 +38,7 @@ module _ (s : Sender) (d out : List ℕ) (l : lent_of s (length d) ≡ true) (o 
   unfolding due-frame waits_of pick
   asked = go s.nak (leb s.transfer.window s.unanswered) (eqb s.next s.burst.end) (leb (length (frame_of s d)) (length out)) refl refl refl refl
     where
-      opened : entry_of (lent_of s (length d)) s.ended ≡ Open
+      opened : entry_of (lent_of s (length d)) s.ended ≡ (Ok tt)
       opened = open_entry _ _ l o
 
       waiting : waits_of s ≡ true → Waits s → Asked s d out (next_of s d out)
@@ -90,7 +90,7 @@ pub record Answers (s : Sender) : Type 0 where
   pub live : s.ended ≡ false
   pub some : 1 ≤ s.unanswered
 
-pub answers : (s : Sender) → Open ≡ confirms_of s → Answers s
+pub answers : (s : Sender) → (Ok tt) ≡ confirms_of s → Answers s
 unfolding confirms_of
 answers s e =
     let a = confirmed _ _ _ e in
@@ -103,7 +103,7 @@ answers s e =
 -- an event that is not refused
 module _ (s : Sender) (h : holds_of s ≡ true) (o : s.ended ≡ false) where
   module _ (n : s.unanswered ≡ 0 → ⊥) where
-    answers_open : confirms_of s ≡ Open
+    answers_open : confirms_of s ≡ (Ok tt)
     unfolding confirms_of
     answers_open = open_confirmable _ _ _ h o (rw (ne_eqb _ _ n) refl)
 
@@ -122,7 +122,7 @@ module _ (s : Sender) (h : holds_of s ≡ true) (o : s.ended ≡ false) where
 
   -- with nothing unanswered: 4, and a cut changes nothing
   module _ (z : s.unanswered ≡ 0) where
-    four : confirms_of s ≡ Closed AnswerWithoutFrame
+    four : confirms_of s ≡ Err AnswerWithoutFrame
     unfolding confirms_of confirmable_of pick
     four = rw (open_entry _ _ h o, z) refl
 

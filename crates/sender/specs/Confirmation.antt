@@ -3,7 +3,7 @@ use Rattle.std.specs.Prelude.{not, eqb}
 use Rattle.status.specs.Entry.{entry_of, confirmable_of}
 use Rattle.status.specs.Pick.{pick}
 use Rattle.status.specs.Answer.{Word, Said, Left, ◌saying◌, unless}
-use Rattle.status.specs.declared.entry.Entry.{Entry}
+use Rattle.status.specs.Entry.{Entry}
 use Rattle.sender_steps.specs.Record.{holds_of}
 use Rattle.sender_steps.specs.Confirmation.{failed_of, ack_step_of, nak_step_of, retry_step_of}
 use Rattle.sender_steps.specs.declared.types.Sender.{Sender}

@@ -10,7 +10,7 @@ use borrow.Author.Tests.{leb-true, eqb-true, ne_eqb, eq-eqb}
 use Rattle.status.specs.Pick.{pick, all, ◌with◌}
 use Rattle.status.specs.Entry.{confirmable_of}
 use Rattle.status.specs.Answer.{Word, Said, Left, ◌saying◌}
-use Rattle.status.specs.declared.entry.Entry.TheVariants.{Open}
+use Rattle.std.specs.Prelude.{Ok}
 use Rattle.status.proofs.Choose.{in_true, in_false, each}
 use Rattle.status.proofs.OpenedCall.{open_entry, open_confirmable}
 use Rattle.frame.specs.Write.{over, handing}
@@ -53,7 +53,7 @@ pub lent_well : (w : Writer) (n : ℕ) {ok : Bool} → (ok ≡ true → holds_of
 lent_well w n {ok} h a = let e = each (ok ∷ eqb n w.sender.transfer.count ∷ []) a in lent_again w n (h e.0) (eqb-true _ _ e.1.0)
 
 -- ── an ACK ──
-opens : (h : Writer) → (h.sender.unanswered ≡ 0 → ⊥) → WriteOpen h → confirmable_of (holds_of h) h.sender.ended (not (eqb h.sender.unanswered 0)) ≡ Open
+opens : (h : Writer) → (h.sender.unanswered ≡ 0 → ⊥) → WriteOpen h → confirmable_of (holds_of h) h.sender.ended (not (eqb h.sender.unanswered 0)) ≡ (Ok tt)
 opens h n o = open_confirmable _ _ _ o.1 o.0 (ap not (ne_eqb _ _ n))
 
 -- frames stay unanswered
@@ -61,7 +61,7 @@ pub one_of_many : (h x : Writer) (r : CAnswer) → OneOfMany h → r ≡ word 4 
 unfolding counted_of
 one_of_many h x r q s l = by (held_up h) refl
   where
-    entered : confirmable_of (holds_of h) h.sender.ended (not (eqb h.sender.unanswered 0)) ≡ Open
+    entered : confirmable_of (holds_of h) h.sender.ended (not (eqb h.sender.unanswered 0)) ≡ (Ok tt)
     entered = opens h (λ e. omega (arith, q.0)) q.1
 
     go : (y : Left Sender) → Settled (lowered_of h.sender h.sender.nak) y → Leaves (lifted_of h y) x r
@@ -91,7 +91,7 @@ pub last_one : (h x : Writer) (r : CAnswer) → LastOne h → r ≡ last_told h.
 unfolding last_told
 last_one h x r q s l = subst (λ (y : Left Writer). Leaves y x r) (sym (ack_lifted h entered (served h q.2))) (go _ (settled (lowered_of h.sender h.sender.nak)))
   where
-    entered : confirmable_of (holds_of h) h.sender.ended (not (eqb h.sender.unanswered 0)) ≡ Open
+    entered : confirmable_of (holds_of h) h.sender.ended (not (eqb h.sender.unanswered 0)) ≡ (Ok tt)
     entered = opens h (λ e. omega (arith, q.0)) q.3
 
     write : h.sender.transfer.write ≡ true

@@ -5,8 +5,8 @@ use mathlib.Core.Bool.{Bool, true, false, false≢true}
 use mathlib.Core.Path.{◌≡◌, refl, subst}
 use Rattle.status.specs.Pick.{pick}
 use Rattle.status.specs.Answer.{Word, Said, Left, ◌saying◌, stores, refuses, unless}
-use Rattle.status.specs.declared.entry.Entry.{Entry}
-use Rattle.status.specs.declared.entry.Entry.TheVariants.{Open, Closed}
+use Rattle.status.specs.Entry.{Entry}
+use Rattle.std.specs.Prelude.{Ok, Err}
 
 -- what holds of both holds of the one that is picked
 pub picked : {A : Type 0} (P : A → Type 0) (t : Bool) (a b : A) → P a → P b → P (pick t a b)
@@ -16,8 +16,8 @@ picked P false a b p q = q
 
 -- what holds of each refusal and of what is done else
 pub unless_gives : {X : Type 0} (P : Left X → Type 0) (e : Entry) (x : X) (r : Left X) → ((n : ℕ) → P (x saying Said.refused n)) → P r → P (unless e x r)
-unless_gives P Open x r f p = p
-unless_gives P (Closed why) x r f p = f _
+unless_gives P (Ok tt) x r f p = p
+unless_gives P (Err why) x r f p = f _
 
 abbrev pub AfterWord : {X : Type 0} → Word → X → X → Type 0
 AfterWord Word.wait x y = y ≡ x
@@ -58,8 +58,8 @@ module _ {X : Type 0} (End : X → Type 0) (x : X) where
   leaves_pick = picked (Leaves End x)
 
   pub leaves_unless : (e : Entry) (r : Left X) → Leaves End x r → Leaves End x (unless e x r)
-  leaves_unless Open r p = p
-  leaves_unless (Closed why) r p = refl
+  leaves_unless (Ok tt) r p = p
+  leaves_unless (Err why) r p = refl
 
   pub refusal_same : (r : Left X) → Leaves End x r → (n : ℕ) → r.says ≡ Said.refused n → r.left ≡ x
   refusal_same r l n e = subst (λ (a : Said). After End a x r.left) e l

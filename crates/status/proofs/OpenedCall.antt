@@ -9,31 +9,31 @@ use Rattle.status.specs.Number.{refusal_number}
 use Rattle.status.specs.Answer.{Left, unless, refused, ◌saying◌}
 use Rattle.status.specs.declared.words.Refusal.{Refusal}
 use Rattle.status.specs.declared.words.Refusal.TheVariants.{BadRequest, TransferEnded}
-use Rattle.status.specs.declared.entry.Entry.{Entry}
-use Rattle.status.specs.declared.entry.Entry.TheVariants.{Open, Closed}
+use Rattle.status.specs.Entry.{Entry}
+use Rattle.std.specs.Prelude.{Ok, Err}
 
 -- two values that differ
 pub differ : {A : Type 0} → ◌≡◌ {A = ℕ} 0 1 → A
 differ e = absurd (omega arith)
 
-pub opened : (ok ended : Bool) → Open ≡ entry_of ok ended → (ok ≡ true) × (ended ≡ false)
+pub opened : (ok ended : Bool) → (Ok tt) ≡ entry_of ok ended → (ok ≡ true) × (ended ≡ false)
 unfolding entry_of pick
 opened true false e = (refl, refl)
 opened true true e = differ (cc)
 opened false ended e = differ (cc)
 
-pub confirmed : (ok ended some : Bool) → Open ≡ confirmable_of ok ended some → (ok ≡ true) × (ended ≡ false) × (some ≡ true)
+pub confirmed : (ok ended some : Bool) → (Ok tt) ≡ confirmable_of ok ended some → (ok ≡ true) × (ended ≡ false) × (some ≡ true)
 unfolding confirmable_of entry_of pick
 confirmed true false true e = (refl, refl, refl)
 confirmed true false false e = differ (cc)
 confirmed true true some e = differ (cc)
 confirmed false ended some e = differ (cc)
 
-pub open_entry : (ok ended : Bool) → ok ≡ true → ended ≡ false → entry_of ok ended ≡ Open
+pub open_entry : (ok ended : Bool) → ok ≡ true → ended ≡ false → entry_of ok ended ≡ (Ok tt)
 unfolding entry_of pick
 open_entry ok ended e f = rw (e, f)
 
-pub open_confirmable : (ok ended some : Bool) → ok ≡ true → ended ≡ false → some ≡ true → confirmable_of ok ended some ≡ Open
+pub open_confirmable : (ok ended some : Bool) → ok ≡ true → ended ≡ false → some ≡ true → confirmable_of ok ended some ≡ (Ok tt)
 unfolding confirmable_of entry_of pick
 open_confirmable ok ended some e f g = rw (e, f, g)
 
@@ -45,7 +45,7 @@ pub confirmable_is : (ended some : Bool) {ok t : Bool} {e x : Entry} → ok ≡ 
 confirmable_is ended some p q r = ap (λ (b : Bool). confirmable_of b ended some) (sym p) ∙ sym q ∙ r
 
 -- an ended record: 1 or 2, whatever is asked of it
-closed : (ok ended : Bool) → ended ≡ true → (why : Refusal) × (entry_of ok ended ≡ Closed why)
+closed : (ok ended : Bool) → ended ≡ true → (why : Refusal) × (entry_of ok ended ≡ Err why)
 unfolding entry_of pick
 closed true ended e = (TransferEnded, rw e)
 closed false ended e = (BadRequest, refl)

@@ -1,10 +1,9 @@
 -- What a call answers, in the paper's terms: "a definition that gives this paper's number and values for each of its cases".
-use Rattle.std.specs.Prelude.{ℕ, Bool, true, false}
+use Rattle.std.specs.Prelude.{ℕ, Bool, true, false, Ok, Err}
 use Rattle.std.proofs.Math.Option.{Option, none, some}
 use Rattle.status.specs.Number.{refusal_number, failure_number}
 use Rattle.status.specs.Report.{Report, failing}
-use Rattle.status.specs.declared.entry.Entry.{Entry}
-use Rattle.status.specs.declared.entry.Entry.TheVariants.{Open, Closed}
+use Rattle.status.specs.Entry.{Entry}
 use Rattle.status.specs.declared.answer.Opened.{Opened}
 use Rattle.status.specs.declared.answer.Answer.{Answer}
 use Rattle.status.specs.declared.answer.Answer.TheVariants.{Refused, Failed, Wait, Frame, Taken, Retry, Unchanged, Delivered, Acknowledged, Discarded, Stored, Received, NextBurst, NextBurstDelivers, Repeated, Response}
@@ -135,5 +134,5 @@ x saying a = record { left = x; says = a }
 
 -- 1 to 8 "are refusals": the record stays as it was
 abbrev pub unless : {X : Type 0} → Entry → X → Left X → Left X
-unless Open x y = y
-unless (Closed why) x y = x saying refused (refusal_number why)
+unless (Ok u) x y = y
+unless (Err why) x y = x saying refused (refusal_number why)

@@ -75,20 +75,13 @@ impl Answer {
     pub fn stores(self) -> bool
         ensures { result ≡ stores (says self) }
     {
-        match self {
-            Answer::Stored => true,
-            Answer::Received => true,
-            _ => false,
-        }
+        matches!(self, Answer::Stored | Answer::Received)
     }
 
     // The call was refused.
     pub fn refuses(self) -> bool
         ensures { result ≡ refuses (says self) }
     {
-        match self {
-            Answer::Refused(_) => true,
-            _ => false,
-        }
+        matches!(self, Answer::Refused(_))
     }
 }

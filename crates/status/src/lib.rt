@@ -3,8 +3,10 @@
 
 mod answer;
 mod entry;
+mod stepped;
 mod words;
 
 pub use answer::{Answer, Opened, Part};
-pub use entry::{Entry, admit, confirmable};
+pub use entry::{admit, confirmable};
+pub use stepped::Stepped;
 pub use words::{Failure, Refusal};

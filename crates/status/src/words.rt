@@ -3,36 +3,36 @@ ghost use Rattle.std.specs.Prelude.{◌≡◌};
 ghost use Rattle.status.specs.Number.{refusal_number, failure_number};
 
 // A refusal changes nothing.
-#[derive(Clone, Copy)]
+#[derive(Clone, Copy, Debug, PartialEq, Eq)]
 pub enum Refusal {
-    BadRequest,
-    TransferEnded,
-    FrameSpaceShort,
-    AnswerWithoutFrame,
-    MalformedFrame,
-    UnexpectedFrameType,
-    WrongAddress,
-    UnknownTag,
+    BadRequest = 1,
+    TransferEnded = 2,
+    FrameSpaceShort = 3,
+    AnswerWithoutFrame = 4,
+    MalformedFrame = 5,
+    UnexpectedFrameType = 6,
+    WrongAddress = 7,
+    UnknownTag = 8,
 }
 
 // A failure ends the port.
-#[derive(Clone, Copy)]
+#[derive(Clone, Copy, Debug, PartialEq, Eq)]
 pub enum Failure {
-    DataOffsetError,
-    TooMuchData,
-    IncorrectDataLength,
-    XferRdyTooShort,
-    XferRdyTooLong,
-    XferRdyIncorrectWriteDataLength,
-    XferRdyRequestedOffsetError,
-    XferRdyNotExpected,
-    NakReceived,
-    AckNakTimeout,
-    ConnectionLost,
-    NexusLoss,
-    ResponseTooShort,
-    InitiatorResponseTimeout,
-    ResponseDataWrong,
+    DataOffsetError = 20,
+    TooMuchData = 21,
+    IncorrectDataLength = 22,
+    XferRdyTooShort = 23,
+    XferRdyTooLong = 24,
+    XferRdyIncorrectWriteDataLength = 25,
+    XferRdyRequestedOffsetError = 26,
+    XferRdyNotExpected = 27,
+    NakReceived = 28,
+    AckNakTimeout = 29,
+    ConnectionLost = 30,
+    NexusLoss = 31,
+    ResponseTooShort = 32,
+    InitiatorResponseTimeout = 33,
+    ResponseDataWrong = 34,
 }
 
 impl Refusal {
@@ -40,16 +40,7 @@ impl Refusal {
     pub fn number(self) -> u8
         ensures { result ≡ refusal_number self }
     {
-        match self {
-            Refusal::BadRequest => 1,
-            Refusal::TransferEnded => 2,
-            Refusal::FrameSpaceShort => 3,
-            Refusal::AnswerWithoutFrame => 4,
-            Refusal::MalformedFrame => 5,
-            Refusal::UnexpectedFrameType => 6,
-            Refusal::WrongAddress => 7,
-            Refusal::UnknownTag => 8,
-        }
+        self as u8
     }
 }
 
@@ -58,22 +49,6 @@ impl Failure {
     pub fn number(self) -> u8
         ensures { result ≡ failure_number self }
     {
-        match self {
-            Failure::DataOffsetError => 20,
-            Failure::TooMuchData => 21,
-            Failure::IncorrectDataLength => 22,
-            Failure::XferRdyTooShort => 23,
-            Failure::XferRdyTooLong => 24,
-            Failure::XferRdyIncorrectWriteDataLength => 25,
-            Failure::XferRdyRequestedOffsetError => 26,
-            Failure::XferRdyNotExpected => 27,
-            Failure::NakReceived => 28,
-            Failure::AckNakTimeout => 29,
-            Failure::ConnectionLost => 30,
-            Failure::NexusLoss => 31,
-            Failure::ResponseTooShort => 32,
-            Failure::InitiatorResponseTimeout => 33,
-            Failure::ResponseDataWrong => 34,
-        }
+        self as u8
     }
 }

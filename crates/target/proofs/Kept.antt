@@ -11,8 +11,8 @@ use Rattle.frame.specs.Write.{hands}
 use Rattle.status.specs.Pick.{pick, ◌with◌}
 use Rattle.status.specs.Entry.{entry_of}
 use Rattle.status.specs.Answer.{Word, Said, Left, ◌saying◌, stores, unless}
-use Rattle.status.specs.declared.entry.Entry.{Entry}
-use Rattle.status.specs.declared.entry.Entry.TheVariants.{Open, Closed}
+use Rattle.status.specs.Entry.{Entry}
+use Rattle.std.specs.Prelude.{Ok, Err}
 use Rattle.status.proofs.Leaves.{picked, unless_gives}
 use Rattle.status.proofs.OpenedCall.{opened}
 use Rattle.status.specs.Result.{Result}
@@ -140,16 +140,16 @@ module _ (x : Target) where
     answer_kept z f = go (confirms_of x) refl
       where
         go : (e : Entry) → e ≡ confirms_of x → Kept (unless e x z)
-        go Open p = f (answers x p).2
-        go (Closed why) p = h
+        go (Ok tt) p = f (answers x p).2
+        go (Err why) p = h
 
     pub next_kept : (out : List ℕ) → (x.receiver.ended ≡ false → due_of x ≡ true → x.since + 1 ≤ 16) → holds_of (next_of x out).left ≡ true
     unfolding next_of hands
     next_kept out s = go (entry_of (holds_of x) x.receiver.ended) refl
       where
         go : (e : Entry) → e ≡ entry_of (holds_of x) x.receiver.ended → Kept (unless e x (pick (due_of x) (hands_of x out) (x saying Said.word Word.wait)))
-        go Open p = by_test Kept (due_of x) _ _ (λ d. picked Kept (leb (length (frame_of x)) (length out)) (issued_of x saying Said.frame (length (frame_of x))) (x saying Said.refused 3) (issued_holds x (held x h) d (s (opened _ _ p).1 d)) h) h
-        go (Closed why) p = h
+        go (Ok tt) p = by_test Kept (due_of x) _ _ (λ d. picked Kept (leb (length (frame_of x)) (length out)) (issued_of x saying Said.frame (length (frame_of x))) (x saying Said.refused 3) (issued_holds x (held x h) d (s (opened _ _ p).1 d)) h) h
+        go (Err why) p = h
 
     pub ack_kept : holds_of (ack_of x).left ≡ true
     ack_kept = answer_kept _ (acknowledged_holds x h)

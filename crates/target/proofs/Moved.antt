@@ -10,8 +10,8 @@ use borrow.Author.Tests.{ltb-true, eqb-true, eqb-false}
 use Rattle.status.specs.Entry.{entry_of}
 use Rattle.status.specs.Pick.{pick, ◌with◌}
 use Rattle.status.specs.Answer.{Word, Said, Left, ◌saying◌, unless}
-use Rattle.status.specs.declared.entry.Entry.{Entry}
-use Rattle.status.specs.declared.entry.Entry.TheVariants.{Open, Closed}
+use Rattle.status.specs.Entry.{Entry}
+use Rattle.std.specs.Prelude.{Ok, Err}
 use Rattle.status.proofs.OpenedCall.{opened}
 use Rattle.frame.specs.Write.{hands}
 use Rattle.receiver_steps.specs.Fields.{waiting≔}
@@ -69,15 +69,15 @@ module _ (x : Target) (ms : ℕ) where
   by_entry z f = go (entry_of (holds_of x) x.receiver.ended) refl
     where
       go : (e : Entry) → e ≡ entry_of (holds_of x) x.receiver.ended → Moved x ms (unless e x z)
-      go Open p = let o = opened _ _ p in f (record { holds = o.0; going = o.1 })
-      go (Closed why) p = refused _
+      go (Ok tt) p = let o = opened _ _ p in f (record { holds = o.0; going = o.1 })
+      go (Err why) p = refused _
 
   by_answer : (z : Left Target) → (Goes x → x.state ≡ UNANSWERED → Moved x ms z) → Moved x ms (unless (confirms_of x) x z)
   by_answer z f = go (confirms_of x) refl
     where
       go : (e : Entry) → e ≡ confirms_of x → Moved x ms (unless e x z)
-      go Open p = let a = answers x p in f (record { holds = a.0; going = a.1 }) a.2
-      go (Closed why) p = refused _
+      go (Ok tt) p = let a = answers x p in f (record { holds = a.0; going = a.1 }) a.2
+      go (Err why) p = refused _
 
   retry_moved : (c : ℕ) → Goes x → x.state ≡ UNANSWERED → Moved x ms (retry_of x c)
   unfolding retry_of pick

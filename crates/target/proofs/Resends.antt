@@ -11,7 +11,7 @@ use borrow.Author.Tests.{ltb-true, ltb-false, eqb-true, eqb-false, eq-eqb, ne_eq
 use Rattle.status.specs.Pick.{pick, ◌with◌}
 use Rattle.status.specs.Entry.{confirmable_of}
 use Rattle.status.specs.Answer.{Word, Said, ◌saying◌}
-use Rattle.status.specs.declared.entry.Entry.TheVariants.{Open as open-entry-is, Closed}
+use Rattle.std.specs.Prelude.{Ok, Err}
 use Rattle.status.specs.declared.words.Refusal.TheVariants.{AnswerWithoutFrame}
 use Rattle.status.proofs.OpenedCall.{open_entry, open_confirmable}
 use Rattle.frame.specs.Write.{hands}
@@ -26,7 +26,7 @@ use Rattle.target.proofs.Lowest.{new_tag}
 
 module _ (x : Target) (o : Open x) where
   module _ (u : Unanswered x) where
-    confirms : confirms_of x ≡ open-entry-is
+    confirms : confirms_of x ≡ (Ok tt)
     unfolding confirms_of
     confirms = open_confirmable _ _ _ o.holds o.live (eq-eqb _ _ u)
 
@@ -47,7 +47,7 @@ module _ (x : Target) (o : Open x) where
     cuts = rw (open_entry _ _ o.holds o.live, eq-eqb x.state UNANSWERED u) (retry 30)
 
   module _ (r : AtRest x) where
-    four : confirms_of x ≡ Closed AnswerWithoutFrame
+    four : confirms_of x ≡ Err AnswerWithoutFrame
     unfolding confirms_of confirmable_of pick
     four = rw (open_entry _ _ o.holds o.live, ne_eqb x.state UNANSWERED r) refl
 

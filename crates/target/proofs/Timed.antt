@@ -8,8 +8,8 @@ use borrow.Author.Tests.{leb-true, leb-false, le-leb}
 use Rattle.status.specs.Entry.{entry_of}
 use Rattle.status.specs.Pick.{pick, ◌with◌}
 use Rattle.status.specs.Answer.{Word, Said, Left, ◌saying◌, unless}
-use Rattle.status.specs.declared.entry.Entry.{Entry}
-use Rattle.status.specs.declared.entry.Entry.TheVariants.{Open, Closed}
+use Rattle.status.specs.Entry.{Entry}
+use Rattle.std.specs.Prelude.{Ok, Err}
 use Rattle.status.proofs.OpenedCall.{differ, opened, open_entry}
 use Rattle.target.specs.Fields.{elapsed≔}
 use Rattle.target.specs.Record.{holds_of, failed_of}
@@ -30,10 +30,10 @@ module _ (x : Target) (ms : ℕ) where
   timed = go (entry_of (holds_of x) x.receiver.ended) (runs_of x) (leb x.receiver.transfer.irt (x.elapsed + ms)) refl refl refl
     where
       go : (e : Entry) (c t : Bool) → e ≡ entry_of (holds_of x) x.receiver.ended → runs_of x ≡ c → leb x.receiver.transfer.irt (x.elapsed + ms) ≡ t → Timed x ms (unless e x (pick c (pick t (failed_of x 33) ((x with elapsed≔ (x.elapsed + ms)) saying Said.word Word.taken)) (x saying Said.word Word.unchanged)))
-      go (Closed why) c t p q r = refused _ (λ h o. let z : Closed why ≡ Open = p ∙ open_entry _ _ h o in differ (cc))
-      go Open false t p q r = outside (λ s n. false≢true (sym q ∙ runs_there x s n))
-      go Open true true p q r = let s = runs_only x (opened _ _ p).1 q in expires (record { span = s.0; on = s.1; reached = omega (arith, leb-true) })
-      go Open true false p q r = let s = runs_only x (opened _ _ p).1 q in counts (record { span = s.0; below = omega (arith, leb-false) })
+      go (Err why) c t p q r = refused _ (λ h o. let z : Err why ≡ (Ok tt) = p ∙ open_entry _ _ h o in differ (cc))
+      go (Ok tt) false t p q r = outside (λ s n. false≢true (sym q ∙ runs_there x s n))
+      go (Ok tt) true true p q r = let s = runs_only x (opened _ _ p).1 q in expires (record { span = s.0; on = s.1; reached = omega (arith, leb-true) })
+      go (Ok tt) true false p q r = let s = runs_only x (opened _ _ p).1 q in counts (record { span = s.0; below = omega (arith, leb-false) })
 
   -- 33 there, and there only
   pub fails_there : holds_of x ≡ true → Reaches x ms → time_of x ms ≡ failed_of x 33

@@ -11,8 +11,8 @@ use Rattle.status.specs.Entry.{entry_of}
 use Rattle.status.specs.Pick.{pick}
 use Rattle.status.specs.Answer.{Word, Said, Left, ◌saying◌, stores, unless}
 use Rattle.status.specs.Result.{Result}
-use Rattle.status.specs.declared.entry.Entry.{Entry}
-use Rattle.status.specs.declared.entry.Entry.TheVariants.{Open, Closed}
+use Rattle.status.specs.Entry.{Entry}
+use Rattle.std.specs.Prelude.{Ok, Err}
 use Rattle.status.proofs.OpenedCall.{differ, opened, open_entry, confirmed}
 use Rattle.status.proofs.Leaves.{picked}
 use Rattle.frame.specs.Format.{DATA, encode}
@@ -50,10 +50,10 @@ unfolding next_of hands pick
 handed_out x out n e = go (entry_of (holds_of x) x.receiver.ended) (due_of x) (leb (length (frame_of x)) (length out)) refl refl refl e
   where
     go : (e : Entry) (d t : Bool) → e ≡ entry_of (holds_of x) x.receiver.ended → due_of x ≡ d → leb (length (frame_of x)) (length out) ≡ t → (unless e x (pick d (pick t (issued_of x saying Said.frame (length (frame_of x))) (x saying Said.refused 3)) (x saying Said.word Word.wait))).says ≡ Said.frame n → HandedOut x out n
-    go (Closed why) d t p q r e = differ (cc)
-    go Open false t p q r e = differ (cc)
-    go Open true false p q r e = differ (cc)
-    go Open true true p q r e =
+    go (Err why) d t p q r e = differ (cc)
+    go (Ok tt) false t p q r e = differ (cc)
+    go (Ok tt) true false p q r e = differ (cc)
+    go (Ok tt) true true p q r e =
         let o = opened _ _ p in
         let z : next_of x out ≡ (issued_of x saying Said.frame (length (frame_of x))) = rw (sym p, q, r) in
         record { holds = o.0; ended = o.1; due = q; target = ap (λ (z : Left Target). z.left) z; size = cc; room = leb-true _ _ r; buffer = ap (λ (z : Left Target). handing z.says (frame_of x) out) z }
@@ -71,7 +71,7 @@ pub record Acked (z : Target) : Type 0 where
   pub left : ack_of z ≡ (acknowledged_of z saying Said.word Word.acknowledged)
 
 -- an answer that is not refused
-pub answers : (z : Target) → Open ≡ confirms_of z → (holds_of z ≡ true) × (z.receiver.ended ≡ false) × (z.state ≡ UNANSWERED)
+pub answers : (z : Target) → (Ok tt) ≡ confirms_of z → (holds_of z ≡ true) × (z.receiver.ended ≡ false) × (z.state ≡ UNANSWERED)
 unfolding confirms_of
 answers z e = let a = confirmed _ _ _ e in (a.0, a.1, eqb-true _ _ a.2)
 
@@ -79,8 +79,8 @@ pub acknowledged : (z : Target) → (ack_of z).says ≡ Said.word Word.acknowled
 acknowledged z e = go (confirms_of z) refl e
   where
     go : (t : Entry) → t ≡ confirms_of z → (unless t z (acknowledged_of z saying Said.word Word.acknowledged)).says ≡ Said.word Word.acknowledged → Acked z
-    go Open p e = let a = answers z p in record { holds = a.0; ended = a.1; state = a.2; left = rw (sym p) }
-    go (Closed why) p e = differ (cc)
+    go (Ok tt) p e = let a = answers z p in record { holds = a.0; ended = a.1; state = a.2; left = rw (sym p) }
+    go (Err why) p e = differ (cc)
 
 -- ── any bytes f at a data buffer of m bytes ──
 -- DATA behind 1, 2 and 5 to 8, after the XFER_RDY's ACK
@@ -108,8 +108,8 @@ came x f m = by_entry (entry_of (lent_of x m) x.receiver.ended) refl
     go o (Result.value a) = picked (Came x m) (is_current x a.header) _ _ (by_state o a (eqb x.state READY) refl) (refused 8)
 
     by_entry : (e : Entry) → e ≡ entry_of (lent_of x m) x.receiver.ended → Came x m (unless e x (arrived_by (accept_of WriteTarget x.receiver.transfer f) x m))
-    by_entry Open p = go (opened _ _ p) (accept_of WriteTarget x.receiver.transfer f)
-    by_entry (Closed why) p = refused _
+    by_entry (Ok tt) p = go (opened _ _ p) (accept_of WriteTarget x.receiver.transfer f)
+    by_entry (Err why) p = refused _
 
 -- the receiving port's answer z
 pub record Lifts (x : Target) (z : Left Receiver) : Type 0 where

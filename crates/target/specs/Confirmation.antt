@@ -3,7 +3,7 @@ use Rattle.std.specs.Prelude.{ℕ, ◌+◌, false, ltb, eqb}
 use Rattle.status.specs.Pick.{pick, ◌with◌}
 use Rattle.status.specs.Entry.{entry_of, confirmable_of}
 use Rattle.status.specs.Answer.{Word, Said, Left, ◌saying◌, unless}
-use Rattle.status.specs.declared.entry.Entry.{Entry}
+use Rattle.status.specs.Entry.{Entry}
 use Rattle.receiver_steps.specs.Fields.{expected≔, filled≔, waiting≔}
 use Rattle.target.specs.Fields.{receiver≔, state≔, retries≔, elapsed≔}
 use Rattle.target.specs.Record.{UNANSWERED, AGAIN, READY, holds_of, failed_of}
