@@ -12,8 +12,6 @@ use Rattle.arrival.specs.declared.Role.TheVariants.{ReadInitiator, WriteInitiato
 use Rattle.arrival.specs.declared.Class.{Class}
 use Rattle.arrival.specs.declared.Class.TheVariants.{Data, XferRdy, Response, Other}
 use Rattle.arrival.specs.declared.Arrived.{Arrived}
-use Rattle.arrival.specs.declared.Accepted.{Accepted}
-use Rattle.arrival.specs.declared.Accepted.TheVariants.{Frame, Refused}
 
 -- "The initiator takes read DATA, XFER_RDY and RESPONSE; the target takes write DATA"; "DATA against the command's direction is 6"
 unfoldable pub class_of : Role → ℕ → Class
@@ -27,11 +25,6 @@ is_taken Data = true
 is_taken XferRdy = true
 is_taken Response = true
 is_taken Other = false
-
--- the answer: the frame, or a number
-abbrev pub accepted : Accepted → Result Arrived
-accepted (Frame a) = Result.value a
-accepted (Refused why) = Result.number (refusal_number why)
 
 -- "6: not one this role takes"; "7: a hashed address differs": the destination is this port, the source the other one; "8: tag differs"
 unfoldable pub screen_of : Transfer → Class → Parsed → Result Arrived

@@ -2,9 +2,10 @@
 #![tactic(auto)]
 
 ghost use Rattle.std.specs.Prelude.{◌≡◌};
-ghost use Rattle.arrival.specs.Accept.{class_of, is_taken, accepted, screen_of, accept_of};
+ghost use Rattle.status.specs.Result.{or_refusal};
+ghost use Rattle.arrival.specs.Accept.{class_of, is_taken, screen_of, accept_of};
 
-use frame::{Decoded, Header, Parsed};
+use frame::{Header, Parsed};
 use status::Refusal;
 use transfer::Transfer;
 
@@ -34,12 +35,6 @@ pub struct Arrived {
     pub header: Header,
     pub start: usize,
     pub len: usize,
-}
-
-#[derive(Clone, Copy)]
-pub enum Accepted {
-    Frame(Arrived),
-    Refused(Refusal),
 }
 
 // One match on the type byte, by role; every other number is refused.
@@ -79,20 +74,20 @@ fn is_taken(class: Class) -> bool
 }
 
 // 6, 7, 8.
-fn screen(t: Transfer, class: Class, p: Parsed) -> Accepted
-    ensures { accepted result ≡ screen_of t class p }
+fn screen(t: Transfer, class: Class, p: Parsed) -> Result<Arrived, Refusal>
+    ensures { or_refusal result ≡ screen_of t class p }
 {
     let h = p.header;
     if !is_taken(class) {
-        return Accepted::Refused(Refusal::UnexpectedFrameType);
+        return Err(Refusal::UnexpectedFrameType);
     }
     if (h.dest != t.local) | (h.source != t.remote) {
-        return Accepted::Refused(Refusal::WrongAddress);
+        return Err(Refusal::WrongAddress);
     }
     if h.tag != t.tag {
-        return Accepted::Refused(Refusal::UnknownTag);
+        return Err(Refusal::UnknownTag);
     }
-    Accepted::Frame(Arrived {
+    Ok(Arrived {
         class: class,
         header: h,
         start: p.start,
@@ -101,14 +96,10 @@ fn screen(t: Transfer, class: Class, p: Parsed) -> Accepted
 }
 
 // Any bytes: 5, 6, 7, 8, else the frame, with what the role takes it for.
-pub fn accept(role: Role, t: Transfer, bytes: &[u8]) -> Accepted
-    ensures { accepted result ≡ accept_of role t bytes.now }
+#[tactic(auto, unfolding(crate::specs::Accept::accept_of))]
+pub fn accept(role: Role, t: Transfer, bytes: &[u8]) -> Result<Arrived, Refusal>
+    ensures { or_refusal result ≡ accept_of role t bytes.now }
 {
-    match frame::read(bytes) {
-        Decoded::Refused(why) => Accepted::Refused(why),
-        Decoded::Frame(p) => {
-            let h = p.header;
-            screen(t, class_of(role, h.frametype), p)
-        }
-    }
+    let p = frame::read(bytes)?;
+    screen(t, class_of(role, p.header.frametype), p)
 }

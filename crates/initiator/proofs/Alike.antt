@@ -9,15 +9,16 @@ use Rattle.frame.specs.XferRdy.{xfer_rdy_of}
 use Rattle.frame.specs.declared.types.Header.{Header}
 use Rattle.frame.specs.declared.types.XferRdy.{XferRdy}
 use Rattle.initiator.specs.WriteTake.{disposition_of, limit_of, next_taken, burst_taken, judged_by, sized_by, xfer_rdy_taken}
-use Rattle.initiator.specs.declared.types.XferRdyDisposition.{XferRdyDisposition}
-use Rattle.initiator.specs.declared.types.XferRdyDisposition.TheVariants.{Next, Repeat, Fail}
+use Rattle.initiator.specs.declared.types.XferRdyDisposition.TheVariants.{Next, Repeat}
 use Rattle.initiator.specs.declared.types.Writer.{Writer}
+use Rattle.std.specs.Prelude.{Ok, Err}
+use Rattle.initiator.specs.WriteTake.{Disposition}
 
 module _ (w : Writer) (h k : Header) (tptt : h.tptt ≡ k.tptt) (retry : h.flags.retry ≡ k.flags.retry) (retransmit : h.flags.retransmit ≡ k.flags.retransmit) where
-  judged : (v : XferRdyDisposition) (x : XferRdy) → judged_by v w h x ≡ judged_by v w k x
-  judged (Fail why) x = refl
-  judged Next x = λ i. burst_taken w (record { base = x.offset; end = x.offset + x.len; tptt = tptt i; limit = limit_of w (retry i) }) (next_taken w)
-  judged Repeat x = λ i. burst_taken w (record { base = x.offset; end = x.offset + x.len; tptt = tptt i; limit = limit_of w (retry i) }) (Said.xfer_rdy Taking.repeats)
+  judged : (v : Disposition) (x : XferRdy) → judged_by v w h x ≡ judged_by v w k x
+  judged (Err why) x = refl
+  judged (Ok Next) x = λ i. burst_taken w (record { base = x.offset; end = x.offset + x.len; tptt = tptt i; limit = limit_of w (retry i) }) (next_taken w)
+  judged (Ok Repeat) x = λ i. burst_taken w (record { base = x.offset; end = x.offset + x.len; tptt = tptt i; limit = limit_of w (retry i) }) (Said.xfer_rdy Taking.repeats)
 
   sized : (o : Result XferRdy) → sized_by o w h ≡ sized_by o w k
   sized (Result.number n) = refl

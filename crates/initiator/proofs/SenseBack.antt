@@ -39,9 +39,10 @@ use Rattle.initiator.specs.Read as read
 use Rattle.initiator.specs.WriteTake as write
 use Rattle.initiator.specs.WriteRecord.{holds_of}
 use Rattle.initiator.specs.Sense.{Stands, ReadStands, WriteStands, Comes, ReadOpens, WriteOpens}
-use Rattle.initiator.specs.declared.types.XferRdyDisposition.{XferRdyDisposition}
-use Rattle.initiator.specs.declared.types.XferRdyDisposition.TheVariants.{Next, Repeat, Fail}
+use Rattle.initiator.specs.declared.types.XferRdyDisposition.TheVariants.{Next, Repeat}
 use Rattle.initiator.specs.declared.types.Writer.{Writer}
+use Rattle.std.specs.Prelude.{Ok, Err}
+use Rattle.initiator.specs.WriteTake.{Disposition}
 
 -- the IU of a frame that has passed 5 to 8 is as long as it says
 whole : (role : Role) (f : List ℕ) (a : Arrived) → Passed role f a → iu_length f ≡ length (iu_of f)
@@ -59,10 +60,10 @@ module _ (w : Writer) (f : List ℕ) where
   unfolding write.xfer_rdy_taken write.burst_taken write.next_taken write.response_of
   taken p Class.XferRdy = sized (xfer_rdy_of (iu_of f))
     where
-      judged : (x : XferRdy) (v : XferRdyDisposition) → Finds (write.judged_by v w (header_in f) x)
-      judged x Next = tt
-      judged x Repeat = tt
-      judged x (Fail why) = tt
+      judged : (x : XferRdy) (v : Disposition) → Finds (write.judged_by v w (header_in f) x)
+      judged x (Ok Next) = tt
+      judged x (Ok Repeat) = tt
+      judged x (Err why) = tt
 
       sized : (y : Result XferRdy) → Finds (write.sized_by y w (header_in f))
       sized (Result.number n) = tt

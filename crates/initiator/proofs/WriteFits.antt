@@ -15,22 +15,23 @@ use Rattle.transfer.proofs.Bounds.{bounds}
 use Rattle.frame.specs.declared.types.XferRdy.{XferRdy}
 use Rattle.sender_steps.specs.declared.types.Burst.{Burst}
 use Rattle.initiator.specs.WriteTake.{previous, all_handed, fits_of, repeat_of, disposition_of}
-use Rattle.initiator.specs.declared.types.XferRdyDisposition.{XferRdyDisposition}
-use Rattle.initiator.specs.declared.types.XferRdyDisposition.TheVariants.{Next, Repeat, Fail}
+use Rattle.initiator.specs.declared.types.XferRdyDisposition.TheVariants.{Next, Repeat}
 use Rattle.initiator.specs.declared.types.Writer.{Writer}
+use Rattle.std.specs.Prelude.{Ok, Err}
+use Rattle.initiator.specs.WriteTake.{Disposition}
 
 pub record Fits (w : Writer) (x : XferRdy) : Type 0 where
   pub some : 0 < x.len
   pub most : x.offset + x.len ≤ w.sender.transfer.count
 
-abbrev pub Taken : XferRdyDisposition → Type 0
-Taken v = (v ≡ Next) ⊎ (v ≡ Repeat)
+abbrev pub Taken : Disposition → Type 0
+Taken v = (v ≡ (Ok Next)) ⊎ (v ≡ (Ok Repeat))
 
-fits : (w : Writer) (x : XferRdy) (v : XferRdyDisposition) → Taken (fits_of w x v) → Fits w x
+fits : (w : Writer) (x : XferRdy) (v : Disposition) → Taken (fits_of w x v) → Fits w x
 unfolding fits_of pick
 fits w x v e = go (eqb x.len 0) (ltb w.sender.transfer.count (x.offset + x.len)) refl refl e
   where
-    go : (t u : Bool) → eqb x.len 0 ≡ t → ltb w.sender.transfer.count (x.offset + x.len) ≡ u → Taken (pick (t || u) (Fail XferRdyIncorrectWriteDataLength) v) → Fits w x
+    go : (t u : Bool) → eqb x.len 0 ≡ t → ltb w.sender.transfer.count (x.offset + x.len) ≡ u → Taken (pick (t || u) (Err XferRdyIncorrectWriteDataLength) v) → Fits w x
     go false false p q e = omega (arith, eqb-false x.len 0 p, ltb-false w.sender.transfer.count (x.offset + x.len) q)
     go false true p q (inl e) = differ (cc)
     go false true p q (inr e) = differ (cc)
@@ -38,11 +39,11 @@ fits w x v e = go (eqb x.len 0) (ltb w.sender.transfer.count (x.offset + x.len))
     go true u p q (inr e) = differ (cc)
 
 -- by what the code compares: p is the previous burst
-pub same_length : (w : Writer) (x : XferRdy) (r : XferRdyDisposition) (p : Burst) → p ≡ previous w → p.base + x.len ≡ p.end → r ≡ fits_of w x Repeat → r ≡ repeat_of w x
+pub same_length : (w : Writer) (x : XferRdy) (r : Disposition) (p : Burst) → p ≡ previous w → p.base + x.len ≡ p.end → r ≡ fits_of w x (Ok Repeat) → r ≡ repeat_of w x
 unfolding repeat_of
 same_length w x r p e l q = in_true _ _ _ _ (eq-eqb _ _ (rw e at l)) q
 
-pub other_length : (w : Writer) (x : XferRdy) (p : Burst) → p ≡ previous w → (p.base + x.len ≡ p.end → ⊥) → Fail XferRdyIncorrectWriteDataLength ≡ repeat_of w x
+pub other_length : (w : Writer) (x : XferRdy) (p : Burst) → p ≡ previous w → (p.base + x.len ≡ p.end → ⊥) → Err XferRdyIncorrectWriteDataLength ≡ repeat_of w x
 unfolding repeat_of
 other_length w x p e l = in_false _ _ _ _ (ne_eqb _ _ (rw e at l)) refl
 
@@ -50,8 +51,8 @@ repeat_fits : (w : Writer) (x : XferRdy) → Taken (repeat_of w x) → Fits w x
 unfolding repeat_of pick
 repeat_fits w x e = go (eqb ((previous w).base + x.len) (previous w).end) e
   where
-    go : (t : Bool) → Taken (pick t (fits_of w x Repeat) (Fail XferRdyIncorrectWriteDataLength)) → Fits w x
-    go true e = fits w x Repeat e
+    go : (t : Bool) → Taken (pick t (fits_of w x (Ok Repeat)) (Err XferRdyIncorrectWriteDataLength)) → Fits w x
+    go true e = fits w x (Ok Repeat) e
     go false (inl e) = differ (cc)
     go false (inr e) = differ (cc)
 
@@ -59,9 +60,9 @@ pub taken_fits : (w : Writer) (x : XferRdy) (retransmit : Bool) → Taken (dispo
 unfolding disposition_of pick
 taken_fits w x retransmit e = go (retransmit && eqb x.offset (previous w).base && ltb (previous w).base (previous w).end) (eqb x.offset (previous w).end) (all_handed w) e
   where
-    go : (t u v : Bool) → Taken (pick t (repeat_of w x) (pick u (pick v (fits_of w x Next) (Fail XferRdyNotExpected)) (Fail XferRdyRequestedOffsetError))) → Fits w x
+    go : (t u v : Bool) → Taken (pick t (repeat_of w x) (pick u (pick v (fits_of w x (Ok Next)) (Err XferRdyNotExpected)) (Err XferRdyRequestedOffsetError))) → Fits w x
     go true u v e = repeat_fits w x e
-    go false true true e = fits w x Next e
+    go false true true e = fits w x (Ok Next) e
     go false true false (inl e) = differ (cc)
     go false true false (inr e) = differ (cc)
     go false false v (inl e) = differ (cc)

@@ -37,14 +37,15 @@ use Rattle.initiator.specs.WriteRecord.{holds_of, begins_of, starts_of}
 use Rattle.initiator.specs.WriteCount.{takes}
 use Rattle.initiator.specs.WriteSend.{lifted_of, reached_of, lent_of, held_up, begun_of, kept_of, next_of, counted_of, confirmed_of, ack_of, nak_of, timeout_of, cut_of, loss_of}
 use Rattle.initiator.specs.WriteTake.{previous, all_handed, fits_of, repeat_of, disposition_of, asked_of, reported_of, next_taken, burst_taken, judged_by, sized_by, xfer_rdy_taken, opened_by, response_of, taken_of, arrived_by, write_arrival_of}
-use Rattle.initiator.specs.declared.types.XferRdyDisposition.{XferRdyDisposition}
-use Rattle.initiator.specs.declared.types.XferRdyDisposition.TheVariants.{Next, Repeat, Fail}
+use Rattle.initiator.specs.declared.types.XferRdyDisposition.TheVariants.{Next, Repeat}
 use Rattle.initiator.specs.declared.types.Writer.{Writer}
 use Rattle.initiator.proofs.WriteHeld.{held, lent}
 use Rattle.initiator.proofs.WriteFits.{Fits, taken_fits}
 use Rattle.initiator.proofs.WriteKept.{starts_well}
 use Rattle.initiator.proofs.WriteViews.{Takes, Came, came}
 use Rattle.initiator.proofs.WriteCounts.{waits_pending}
+use Rattle.std.specs.Prelude.{Ok, Err}
+use Rattle.initiator.specs.WriteTake.{Disposition}
 
 -- transfer and previous burst stay
 pub record Keeps (w v : Writer) : Type 0 where
@@ -135,19 +136,19 @@ pub record For (w : Writer) (x : XferRdy) : Type 0 where
   pub end : x.offset + x.len ≡ (previous w).end
 
 -- a disposition of Repeat is for those
-repeat_for : (w : Writer) (x : XferRdy) (retransmit : Bool) → disposition_of w x retransmit ≡ Repeat → For w x
+repeat_for : (w : Writer) (x : XferRdy) (retransmit : Bool) → disposition_of w x retransmit ≡ (Ok Repeat) → For w x
 unfolding disposition_of repeat_of fits_of pick
 repeat_for w x retransmit e = go (retransmit && eqb x.offset (previous w).base && ltb (previous w).base (previous w).end) (eqb x.offset (previous w).end) (all_handed w) refl e
   where
-    next : (t : Bool) → pick t (Fail XferRdyIncorrectWriteDataLength) Next ≡ Repeat → ⊥
+    next : (t : Bool) → pick t (Err XferRdyIncorrectWriteDataLength) (Ok Next) ≡ (Ok Repeat) → ⊥
     next true e = differ (cc)
     next false e = differ (cc)
 
-    same : (t : Bool) → eqb ((previous w).base + x.len) (previous w).end ≡ t → pick t (fits_of w x Repeat) (Fail XferRdyIncorrectWriteDataLength) ≡ Repeat → (previous w).base + x.len ≡ (previous w).end
+    same : (t : Bool) → eqb ((previous w).base + x.len) (previous w).end ≡ t → pick t (fits_of w x (Ok Repeat)) (Err XferRdyIncorrectWriteDataLength) ≡ (Ok Repeat) → (previous w).base + x.len ≡ (previous w).end
     same true p e = eqb-true _ _ p
     same false p e = differ (cc)
 
-    go : (t u v : Bool) → (retransmit && eqb x.offset (previous w).base && ltb (previous w).base (previous w).end) ≡ t → pick t (repeat_of w x) (pick u (pick v (fits_of w x Next) (Fail XferRdyNotExpected)) (Fail XferRdyRequestedOffsetError)) ≡ Repeat → For w x
+    go : (t u v : Bool) → (retransmit && eqb x.offset (previous w).base && ltb (previous w).base (previous w).end) ≡ t → pick t (repeat_of w x) (pick u (pick v (fits_of w x (Ok Next)) (Err XferRdyNotExpected)) (Err XferRdyRequestedOffsetError)) ≡ (Ok Repeat) → For w x
     go true u v p e =
         let b = eqb-true x.offset (previous w).base (and_true retransmit _ (and_true (retransmit && eqb x.offset (previous w).base) _ p).0).1 in
         let l = same (eqb ((previous w).base + x.len) (previous w).end) refl e in
@@ -194,10 +195,10 @@ module _ (w : Writer) (f : List ℕ) where
     unfolding xfer_rdy_taken
     took_xfer_rdy k = sized (xfer_rdy_of (iu_of f)) refl
       where
-        judged : (x : XferRdy) → xfer_rdy_of (iu_of f) ≡ Result.value x → (v : XferRdyDisposition) → disposition_of w x (header_in f).flags.retransmit ≡ v → Finds (judged_by v w (header_in f) x)
-        judged x r Next e t = took_burst k x r (taken_fits w x (header_in f).flags.retransmit (inl e)) (next_taken w) (λ q. absurd (not_repeats w q))
-        judged x r Repeat e t = took_burst k x r (taken_fits w x (header_in f).flags.retransmit (inr e)) (Said.xfer_rdy Taking.repeats) (λ q. repeat_for w x (header_in f).flags.retransmit e)
-        judged x r (Fail why) e t = absurd (false≢true t)
+        judged : (x : XferRdy) → xfer_rdy_of (iu_of f) ≡ Result.value x → (v : Disposition) → disposition_of w x (header_in f).flags.retransmit ≡ v → Finds (judged_by v w (header_in f) x)
+        judged x r (Ok Next) e t = took_burst k x r (taken_fits w x (header_in f).flags.retransmit (inl e)) (next_taken w) (λ q. absurd (not_repeats w q))
+        judged x r (Ok Repeat) e t = took_burst k x r (taken_fits w x (header_in f).flags.retransmit (inr e)) (Said.xfer_rdy Taking.repeats) (λ q. repeat_for w x (header_in f).flags.retransmit e)
+        judged x r (Err why) e t = absurd (false≢true t)
 
         sized : (y : Result XferRdy) → xfer_rdy_of (iu_of f) ≡ y → Finds (sized_by y w (header_in f))
         sized (Result.number n) r t = absurd (false≢true t)
@@ -226,7 +227,7 @@ module _ (w : Writer) (f : List ℕ) where
 
 -- ── an XFER_RDY that repeats the previous burst ──
 module _ (v : Writer) (x : XferRdy) (base : (previous v).base ≡ x.offset) (end : (previous v).end ≡ x.offset + x.len) (some : 0 < x.len) (most : x.offset + x.len ≤ v.sender.transfer.count) where
-  repeats : disposition_of v x true ≡ Repeat
+  repeats : disposition_of v x true ≡ (Ok Repeat)
   unfolding disposition_of repeat_of fits_of pick
   repeats = rw (eq-eqb x.offset (previous v).base (sym base), lt-ltb (previous v).base (previous v).end (omega arith), eq-eqb ((previous v).base + x.len) (previous v).end (omega arith), ne_eqb x.len 0 (λ e. omega arith), le-ltb v.sender.transfer.count (x.offset + x.len) most)
 

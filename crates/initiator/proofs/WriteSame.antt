@@ -32,11 +32,12 @@ use Rattle.initiator.specs.WriteRecord.{holds_of, begins_of, starts_of}
 use Rattle.initiator.specs.WriteCount.{takes}
 use Rattle.initiator.specs.WriteSend.{lifted_of, reached_of, lent_of, held_up, counted_of, begun_of, kept_of, next_of, confirmed_of, ack_of, nak_of, timeout_of, cut_of, loss_of}
 use Rattle.initiator.specs.WriteTake.{asked_of, disposition_of, burst_taken, judged_by, xfer_rdy_taken, write_arrival_of}
-use Rattle.initiator.specs.declared.types.XferRdyDisposition.{XferRdyDisposition}
-use Rattle.initiator.specs.declared.types.XferRdyDisposition.TheVariants.{Next, Repeat, Fail}
+use Rattle.initiator.specs.declared.types.XferRdyDisposition.TheVariants.{Next, Repeat}
 use Rattle.initiator.specs.declared.types.Writer.{Writer}
 use Rattle.initiator.proofs.WriteHeld.{held, lent}
 use Rattle.initiator.proofs.WriteFits.{Fits, taken_fits}
+use Rattle.std.specs.Prelude.{Ok, Err}
+use Rattle.initiator.specs.WriteTake.{Disposition}
 
 -- ── answers, timeout and cut ──
 module _ (w : Writer) (h : holds_of w ≡ true) (p : w.pending ≡ false) where
@@ -145,20 +146,20 @@ module _ (w : Writer) (h : Header) (x : XferRdy) (e : holds_of w ≡ true) (n : 
       rw (open_entry _ _ e n, written_passes w.sender.transfer WriteInitiator h iu Class.XferRdy (xfer_rdy_class h.frametype a.frametype) refl a.dest a.source a.tag a.range t, p, xfer_rdy_comes_back x a.offset a.len)
 
   -- one that is taken
-  took : (v : XferRdyDisposition) → takes (judged_by v w h x).says ≡ true → (v ≡ Next) ⊎ (v ≡ Repeat)
-  took Next t = inl refl
-  took Repeat t = inr refl
-  took (Fail why) t = absurd (false≢true t)
+  took : (v : Disposition) → takes (judged_by v w h x).says ≡ true → (v ≡ (Ok Next)) ⊎ (v ≡ (Ok Repeat))
+  took (Ok Next) t = inl refl
+  took (Ok Repeat) t = inr refl
+  took (Err why) t = absurd (false≢true t)
 
-  starts : w.sender.unanswered ≡ 0 → (v : XferRdyDisposition) → (v ≡ Next) ⊎ (v ≡ Repeat) → (judged_by v w h x).left ≡ begins_of w.sender.transfer (asked_of w h x)
+  starts : w.sender.unanswered ≡ 0 → (v : Disposition) → (v ≡ (Ok Next)) ⊎ (v ≡ (Ok Repeat)) → (judged_by v w h x).left ≡ begins_of w.sender.transfer (asked_of w h x)
   unfolding burst_taken pick
-  starts z Next t = rw z
-  starts z Repeat t = rw z
-  starts z (Fail why) (inl t) = differ (cc)
-  starts z (Fail why) (inr t) = differ (cc)
+  starts z (Ok Next) t = rw z
+  starts z (Ok Repeat) t = rw z
+  starts z (Err why) (inl t) = differ (cc)
+  starts z (Err why) (inr t) = differ (cc)
 
   module _ (t : takes (write_arrival_of w (encode h (xfer_rdy_bytes x))).says ≡ true) where
-    disposition_taken : (disposition_of w x h.flags.retransmit ≡ Next) ⊎ (disposition_of w x h.flags.retransmit ≡ Repeat)
+    disposition_taken : (disposition_of w x h.flags.retransmit ≡ (Ok Next)) ⊎ (disposition_of w x h.flags.retransmit ≡ (Ok Repeat))
     disposition_taken = took (disposition_of w x h.flags.retransmit) (rw xfer_rdy_arrives at t)
 
     pub xfer_rdy_fits : Fits w x

@@ -24,10 +24,11 @@ use Rattle.arrival.specs.declared.Arrived.{Arrived}
 use Rattle.arrival.proofs.Passed.{passed}
 use Rattle.initiator.specs.WriteRecord.{holds_of}
 use Rattle.initiator.specs.WriteTake.{ended_of, failed_of, asked_of, reported_of, next_taken, disposition_of, burst_taken, judged_by, sized_by, xfer_rdy_taken, opened_by, response_of, taken_of, arrived_by, write_arrival_of}
-use Rattle.initiator.specs.declared.types.XferRdyDisposition.{XferRdyDisposition}
-use Rattle.initiator.specs.declared.types.XferRdyDisposition.TheVariants.{Next, Repeat, Fail}
+use Rattle.initiator.specs.declared.types.XferRdyDisposition.TheVariants.{Next, Repeat}
 use Rattle.initiator.specs.declared.types.Writer.{Writer}
 use Rattle.initiator.proofs.WriteFits.{Fits, taken_fits}
+use Rattle.std.specs.Prelude.{Ok, Err}
+use Rattle.initiator.specs.WriteTake.{Disposition}
 
 -- what a taken XFER_RDY says
 pub data Takes (w : Writer) : Said → Type 0 where
@@ -53,10 +54,10 @@ module _ (w : Writer) where
   judged : (h : Header) (x : XferRdy) → Came w (judged_by (disposition_of w x h.flags.retransmit) w h x)
   judged h x = go (disposition_of w x h.flags.retransmit) refl
     where
-      go : (v : XferRdyDisposition) → disposition_of w x h.flags.retransmit ≡ v → Came w (judged_by v w h x)
-      go Next e = taken h x (taken_fits w x h.flags.retransmit (inl e)) next_takes
-      go Repeat e = taken h x (taken_fits w x h.flags.retransmit (inr e)) repeats
-      go (Fail why) e = failed _
+      go : (v : Disposition) → disposition_of w x h.flags.retransmit ≡ v → Came w (judged_by v w h x)
+      go (Ok Next) e = taken h x (taken_fits w x h.flags.retransmit (inl e)) next_takes
+      go (Ok Repeat) e = taken h x (taken_fits w x h.flags.retransmit (inr e)) repeats
+      go (Err why) e = failed _
 
   xfer_rdy_lem : (h : Header) (iu : List ℕ) → Came w (xfer_rdy_taken w h iu)
   unfolding xfer_rdy_taken

@@ -10,9 +10,6 @@ use Rattle.sender_steps.specs.Record.{beginning}
 use Rattle.sender_steps.specs.Record as sender
 use Rattle.sender_steps.specs.declared.types.Burst.{Burst}
 use Rattle.initiator.specs.declared.types.Writer.{Writer}
-use Rattle.initiator.specs.declared.types.WriteStepped.{WriteStepped}
-use Rattle.initiator.specs.declared.types.WriteSetup.{WriteSetup}
-use Rattle.initiator.specs.declared.types.WriteSetup.TheVariants.{Ready, Refused}
 
 -- `sender` is the burst in service, `reached` the furthest offset handed out in it; `pending`: the burst `taken` is taken and not started.
 -- 1 as for the sending port; the record is a write's; the furthest offset stands between next offset and end; the taken burst within the count and the limit
@@ -45,12 +42,3 @@ set_up_tests t = limits_hold t ∷ t.write ∷ []
 
 abbrev pub set_up_write_of : Transfer → Result Writer
 set_up_write_of t = granted (all (set_up_tests t)) (start_of t)
-
--- what the set_up answers: the record, or a number
-abbrev pub made : WriteSetup → Result Writer
-made (Ready w) = Result.value w
-made (Refused why) = Result.number (refusal_number why)
-
--- what an event leaves and answers
-abbrev pub stepped : WriteStepped → Left Writer
-stepped x = x.writer saying says x.answer

@@ -20,8 +20,15 @@ use Rattle.sender_steps.specs.declared.types.Burst.{Burst}
 use Rattle.initiator.specs.Fields.{sender≔, pending≔, taken≔}
 use Rattle.initiator.specs.WriteRecord.{holds_of, begins_of}
 use Rattle.initiator.specs.declared.types.XferRdyDisposition.{XferRdyDisposition}
-use Rattle.initiator.specs.declared.types.XferRdyDisposition.TheVariants.{Next, Repeat, Fail}
+use Rattle.initiator.specs.declared.types.XferRdyDisposition.TheVariants.{Next, Repeat}
 use Rattle.initiator.specs.declared.types.Writer.{Writer}
+use Rattle.status.specs.declared.words.Failure.{Failure}
+use Rattle.std.specs.Prelude as code
+use Rattle.std.specs.Prelude.{Ok, Err}
+
+-- what becomes of it, or the failure
+abbrev pub Disposition : Type 0
+Disposition = code.Result XferRdyDisposition Failure
 
 -- an ended record has nothing unanswered and no NAK pending; its other fields stay
 abbrev pub ended_of : Writer → Writer
@@ -39,20 +46,20 @@ abbrev pub all_handed : Writer → Bool
 all_handed w = pick w.pending (eqb w.taken.base w.taken.end) (eqb w.reached w.sender.burst.end)
 
 -- "25: 0, or offset plus length passes the count"
-unfoldable pub fits_of : Writer → XferRdy → XferRdyDisposition → XferRdyDisposition
-fits_of w x v = pick (eqb x.len 0 || ltb w.sender.transfer.count (x.offset + x.len)) (Fail XferRdyIncorrectWriteDataLength) v
+unfoldable pub fits_of : Writer → XferRdy → Disposition → Disposition
+fits_of w x v = pick (eqb x.len 0 || ltb w.sender.transfer.count (x.offset + x.len)) (Err XferRdyIncorrectWriteDataLength) v
 
 -- 25 also where a repeat has another length: "its length must be that of the burst it repeats" (request K3)
-unfoldable pub repeat_of : Writer → XferRdy → XferRdyDisposition
-repeat_of w x = pick (eqb ((previous w).base + x.len) (previous w).end) (fits_of w x Repeat) (Fail XferRdyIncorrectWriteDataLength)
+unfoldable pub repeat_of : Writer → XferRdy → Disposition
+repeat_of w x = pick (eqb ((previous w).base + x.len) (previous w).end) (fits_of w x (Ok Repeat)) (Err XferRdyIncorrectWriteDataLength)
 
 -- "with RETRANSMIT one it also takes the previous base, at any time" (before any burst there is none to repeat);
 -- "takes an offset equal to the previous burst's end .. if every frame of that burst was handed out at least once, else 27"; "other offsets are 26"; then 25
-unfoldable pub disposition_of : Writer → XferRdy → Bool → XferRdyDisposition
+unfoldable pub disposition_of : Writer → XferRdy → Bool → Disposition
 disposition_of w x retransmit =
     pick (retransmit && eqb x.offset (previous w).base && ltb (previous w).base (previous w).end) (repeat_of w x)
-    (pick (eqb x.offset (previous w).end) (pick (all_handed w) (fits_of w x Next) (Fail XferRdyNotExpected))
-    (Fail XferRdyRequestedOffsetError))
+    (pick (eqb x.offset (previous w).end) (pick (all_handed w) (fits_of w x (Ok Next)) (Err XferRdyNotExpected))
+    (Err XferRdyRequestedOffsetError))
 
 -- "RETRY DATA FRAMES zero makes its limit 0"
 abbrev pub limit_of : Writer → Bool → ℕ
@@ -73,10 +80,10 @@ next_taken w = Said.xfer_rdy (pick (reported_of w) Taking.next (Taking.delivers 
 unfoldable pub burst_taken : Writer → Burst → Said → Left Writer
 burst_taken w b said = pick (eqb w.sender.unanswered 0) (begins_of w.sender.transfer b) (w with pending≔ true with taken≔ b) saying said
 
-abbrev pub judged_by : XferRdyDisposition → Writer → Header → XferRdy → Left Writer
-judged_by (Fail why) w h x = failed_of w (failure_number why)
-judged_by Next w h x = burst_taken w (asked_of w h x) (next_taken w)
-judged_by Repeat w h x = burst_taken w (asked_of w h x) (Said.xfer_rdy Taking.repeats)
+abbrev pub judged_by : Disposition → Writer → Header → XferRdy → Left Writer
+judged_by (Err why) w h x = failed_of w (failure_number why)
+judged_by (Ok Next) w h x = burst_taken w (asked_of w h x) (next_taken w)
+judged_by (Ok Repeat) w h x = burst_taken w (asked_of w h x) (Said.xfer_rdy Taking.repeats)
 
 -- "XFER_RDY 23, 24, 27, 26, 25"
 abbrev pub sized_by : Result XferRdy → Writer → Header → Left Writer

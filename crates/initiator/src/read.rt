@@ -1,53 +1,50 @@
 // A read command at the initiator: arrivals at the receiving end of the transfer.
 ghost use Rattle.std.specs.Prelude.{◌≡◌, true, false, ◌+◌, ◌≤◌, length, take, drop};
+ghost use Rattle.status.specs.Stepped.{stepped};
 ghost use Rattle.status.specs.Result.{Result};
 ghost use Rattle.frame.specs.Read.{header_in, iu_of};
-ghost use Rattle.receiver_steps.specs.Record.{stepped, failed_of, lent_of};
+ghost use Rattle.receiver_steps.specs.Record.{failed_of, lent_of};
 ghost use Rattle.receiver_steps.specs.DataFrame.{storing};
 ghost use Rattle.initiator.specs.Read.{not_expected_of, opened_by, response_of, taken_of, read_arrival_of, read_loss_of};
 
-use arrival::{Accepted, Arrived, Class, Role};
-use frame::{ResponseIu, XferRdyIu};
-use receiver::{Receiver, Stepped};
-use status::{Answer, Entry, Failure, Opened, Part, Refusal};
+use arrival::{Arrived, Class, Role};
+use receiver::Receiver;
+use status::{Answer, Failure, Opened, Part, Refusal, Stepped};
 
 // An XFER_RDY in a read: 23, 24, then 27.
-fn not_expected(r: Receiver, iu: &[u8]) -> Stepped
+fn not_expected(r: Receiver, iu: &[u8]) -> Stepped<Receiver>
     ensures { stepped result ≡ not_expected_of r iu.now }
 {
     match frame::read_xfer_rdy(iu) {
-        XferRdyIu::Failed(why) => receiver_steps::failed(r, why),
-        XferRdyIu::Taken(_) => receiver_steps::failed(r, Failure::XferRdyNotExpected),
+        Err(why) => receiver_steps::failed(r, why),
+        Ok(_) => receiver_steps::failed(r, Failure::XferRdyNotExpected),
     }
 }
 
 // The command has ended, with what the RESPONSE says.
-fn opened(mut r: Receiver, iu: Part, o: Opened) -> Stepped
+fn opened(mut r: Receiver, iu: Part, o: Opened) -> Stepped<Receiver>
     ensures { stepped result ≡ opened_by (Result.value o) r iu.start iu.len }
 {
     r.ended = true;
-    Stepped {
-        receiver: r,
-        answer: Answer::Response {
+    Stepped { left: r, answer: Answer::Response {
             iu: iu,
             opened: o,
             frames: 0,
-        },
-    }
+        } }
 }
 
 // A RESPONSE, its IU at that place of the frame: 32, 34, else the command has ended.
-fn response(r: Receiver, at: Part, iu: &[u8]) -> Stepped
+fn response(r: Receiver, at: Part, iu: &[u8]) -> Stepped<Receiver>
     ensures { stepped result ≡ response_of r at.start at.len iu.now }
 {
     match frame::read_response(iu) {
-        ResponseIu::Failed(why) => receiver_steps::failed(r, why),
-        ResponseIu::Taken(o) => opened(r, at, o),
+        Err(why) => receiver_steps::failed(r, why),
+        Ok(o) => opened(r, at, o),
     }
 }
 
 // Behind 1 and 2, a frame that has passed 5 to 8.
-fn take(r: Receiver, a: Arrived, bytes: &[u8], buffer: &mut [u8]) -> Stepped
+fn take(r: Receiver, a: Arrived, bytes: &[u8], buffer: &mut [u8]) -> Stepped<Receiver>
     requires { (a.start + a.len ≤ length bytes.now) × (lent_of r (length buffer.old) ≡ true) × (r.ended ≡ false) }
     ensures { (stepped result ≡ taken_of a.class r a bytes.now (length buffer.old)) × (buffer.new ≡ storing (taken_of a.class r a bytes.now (length buffer.old)).says a.header.offset (take a.len (drop a.start bytes.now)) buffer.old) }
 {
@@ -67,34 +64,34 @@ fn take(r: Receiver, a: Arrived, bytes: &[u8], buffer: &mut [u8]) -> Stepped
         }
         Class::XferRdy => not_expected(r, iu),
         Class::Response => response(r, at, iu),
-        Class::Other => receiver_steps::refused(r, Refusal::UnexpectedFrameType),
+        Class::Other => Stepped::refused(r, Refusal::UnexpectedFrameType),
     }
 }
 
 // 1, 2, 5, 6, 7, 8; DATA as the receiving port: discarded (filled), 20, 21, 22, discarded, stored or received; XFER_RDY 23, 24, 27; RESPONSE 32, 34,
 // else where its IU stands, kind, status and bytes of sense data.
-pub fn read_frame_received(r: Receiver, bytes: &[u8], buffer: &mut [u8]) -> Stepped
+pub fn read_frame_received(r: Receiver, bytes: &[u8], buffer: &mut [u8]) -> Stepped<Receiver>
     ensures { (stepped result ≡ read_arrival_of r bytes.now (length buffer.old)) × (buffer.new ≡ storing (read_arrival_of r bytes.now (length buffer.old)).says (header_in bytes.now).offset (iu_of bytes.now) buffer.old) }
 {
     let lent = receiver_steps::lent(r, buffer.len());
     let t = r.transfer;
     match status::admit(lent & !t.write, r.ended) {
-        Entry::Closed(why) => receiver_steps::refused(r, why),
-        Entry::Open => match arrival::accept(Role::ReadInitiator, t, bytes) {
-            Accepted::Refused(why) => receiver_steps::refused(r, why),
-            Accepted::Frame(a) => take(r, a, bytes, buffer),
+        Err(why) => Stepped::refused(r, why),
+        Ok(()) => match arrival::accept(Role::ReadInitiator, t, bytes) {
+            Err(why) => Stepped::refused(r, why),
+            Ok(a) => take(r, a, bytes, buffer),
         },
     }
 }
 
 // 1, 2, else 31.
-pub fn read_nexus_lost(r: Receiver) -> Stepped
+pub fn read_nexus_lost(r: Receiver) -> Stepped<Receiver>
     ensures { stepped result ≡ read_loss_of r }
 {
     let holds = receiver_steps::holds(r);
     let t = r.transfer;
     match status::admit(holds & !t.write, r.ended) {
-        Entry::Closed(why) => receiver_steps::refused(r, why),
-        Entry::Open => receiver_steps::failed(r, Failure::NexusLoss),
+        Err(why) => Stepped::refused(r, why),
+        Ok(()) => receiver_steps::failed(r, Failure::NexusLoss),
     }
 }

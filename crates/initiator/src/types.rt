@@ -1,6 +1,6 @@
 // The initiator's record in a write command, and what its events leave.
 use sender::{Burst, Sender};
-use status::{Answer, Failure, Refusal};
+use status::{Answer, Failure, Refusal, Stepped};
 
 #[repr(C)]
 #[derive(Clone, Copy)]
@@ -14,25 +14,11 @@ pub struct Writer {
     pub taken: Burst,
 }
 
-// What an event leaves and answers. A refusal leaves the record as it was.
-#[derive(Clone, Copy)]
-pub struct WriteStepped {
-    pub writer: Writer,
-    pub answer: Answer,
-}
-
-#[derive(Clone, Copy)]
-pub enum WriteSetup {
-    Ready(Writer),
-    Refused(Refusal),
-}
-
-// Whether an XFER_RDY is taken.
+// Which burst an XFER_RDY is taken for.
 #[derive(Clone, Copy)]
 pub(crate) enum XferRdyDisposition {
     // for the next burst
     Next,
     // for the burst taken last, again
     Repeat,
-    Fail(Failure),
 }

@@ -1,12 +1,11 @@
 // The record of a write command: its set-up, the tests of number 1, and how a burst starts.
 ghost use Rattle.std.specs.Prelude.{◌≡◌};
-ghost use Rattle.status.specs.Number.{refusal_number};
-ghost use Rattle.status.specs.Answer.{Said, ◌saying◌};
-ghost use Rattle.initiator.specs.WriteRecord.{holds_of, begins_of, made, set_up_write_of, stepped};
+ghost use Rattle.status.specs.Result.{or_refusal};
+ghost use Rattle.initiator.specs.WriteRecord.{holds_of, begins_of, set_up_write_of};
 
-use crate::types::{WriteSetup, WriteStepped, Writer};
+use crate::types::Writer;
 use sender::Burst;
-use status::{Answer, Refusal};
+use status::{Answer, Refusal, Stepped};
 use transfer::Transfer;
 
 // Number 1 does not apply: limits, marks and counts are in order.
@@ -24,16 +23,6 @@ pub(crate) fn writer_holds(w: Writer) -> bool
         & (n.base <= n.end)
         & (n.end <= t.count)
         & (n.limit <= t.limit)
-}
-
-// A refusal leaves the record as it was.
-pub(crate) fn refused(w: Writer, why: Refusal) -> WriteStepped
-    ensures { stepped result ≡ (w saying Said.refused (refusal_number why)) }
-{
-    WriteStepped {
-        writer: w,
-        answer: Answer::Refused(why),
-    }
 }
 
 // A burst starts: retries zero, no NAK pending, nothing handed out.
@@ -56,8 +45,8 @@ pub(crate) fn begin(t: Transfer, b: Burst) -> Writer
 }
 
 // No burst is taken yet: 1, else the record with an empty burst at 0, all handed out.
-pub fn set_up_write(t: Transfer) -> WriteSetup
-    ensures { made result ≡ set_up_write_of t }
+pub fn set_up_write(t: Transfer) -> Result<Writer, Refusal>
+    ensures { or_refusal result ≡ set_up_write_of t }
 {
     let limits = t.limits_hold();
     if limits & t.write {
@@ -67,8 +56,8 @@ pub fn set_up_write(t: Transfer) -> WriteSetup
             tptt: 0,
             limit: t.limit,
         };
-        WriteSetup::Ready(begin(t, b))
+        Ok(begin(t, b))
     } else {
-        WriteSetup::Refused(Refusal::BadRequest)
+        Err(Refusal::BadRequest)
     }
 }

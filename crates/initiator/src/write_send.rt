@@ -1,61 +1,46 @@
 // A write command's frames asked for, and their confirmations, over the sending port.
 ghost use Rattle.std.specs.Prelude.{◌≡◌, [], max};
+ghost use Rattle.status.specs.Stepped.{stepped};
 ghost use Rattle.frame.specs.Write.{handing};
 ghost use Rattle.sender_steps.specs.Record as sender;
 ghost use Rattle.sender_steps.specs.Transmit.{frame_of, frame_step_of};
-ghost use Rattle.initiator.specs.WriteRecord.{starts_of, stepped};
+ghost use Rattle.initiator.specs.WriteRecord.{starts_of};
 ghost use Rattle.initiator.specs.WriteCount.{Counts};
 ghost use Rattle.initiator.specs.WriteSend.{lifted_of, reached_of, lent_of, held_up, begun_of, kept_of, next_of, counted_of, confirmed_of, ack_of, nak_of, timeout_of, cut_of, loss_of};
 
-use crate::types::{WriteStepped, Writer};
+use crate::types::Writer;
 use crate::write_record;
-use sender::Stepped;
-use status::{Answer, Entry};
+use status::{Answer, Stepped};
 
 // What the sending port answers.
-fn lift(mut w: Writer, x: Stepped) -> WriteStepped
-    ensures { stepped result ≡ lifted_of w (sender.stepped x) }
+fn lift(mut w: Writer, x: Stepped<Sender>) -> Stepped<Writer>
+    ensures { stepped result ≡ lifted_of w (stepped x) }
 {
     let s = x.sender;
     let a = x.answer;
     w.sender = s;
-    WriteStepped {
-        writer: w,
-        answer: a,
-    }
-}
-
-fn greater(a: u32, b: u32) -> u32
-    ensures { result ≡ max a b }
-{
-    if a < b { b } else { a }
+    Stepped { left: w, answer: a }
 }
 
 // The same after a frame asked for, which may have reached further.
-fn reach(mut w: Writer, x: Stepped) -> WriteStepped
-    ensures { stepped result ≡ reached_of w (sender.stepped x) }
+fn reach(mut w: Writer, x: Stepped<Sender>) -> Stepped<Writer>
+    ensures { stepped result ≡ reached_of w (stepped x) }
 {
     let s = x.sender;
     let a = x.answer;
     let furthest = greater(w.reached, s.next);
     w.sender = s;
     w.reached = furthest;
-    WriteStepped {
-        writer: w,
-        answer: a,
-    }
+    Stepped { left: w, answer: a }
 }
 
 // A refusal leaves the record as it was.
-fn keep(w: Writer, y: WriteStepped) -> WriteStepped
+fn keep(w: Writer, y: Stepped<Writer>) -> Stepped<Writer>
     ensures { stepped result ≡ kept_of w (stepped y) }
 {
     let a = y.answer;
     if a.refuses() {
-        return WriteStepped {
-            writer: w,
-            answer: a,
-        };
+        return Stepped { left: w, answer: a };
     }
     y
 }
@@ -87,7 +72,7 @@ fn start(w: Writer) -> Writer
 }
 
 // The burst that was taken starts with its first frame.
-fn first(w: Writer, buffer: &[u8], out: &mut [u8]) -> WriteStepped
+fn first(w: Writer, buffer: &[u8], out: &mut [u8]) -> Stepped<Writer>
     ensures { (stepped result ≡ kept_of w (reached_of (starts_of w) (frame_step_of (starts_of w).sender buffer.now out.old))) × (out.new ≡ handing (frame_step_of (starts_of w).sender buffer.now out.old).says (frame_of (starts_of w).sender buffer.now) out.old) }
 {
     let v = start(w);
@@ -96,19 +81,16 @@ fn first(w: Writer, buffer: &[u8], out: &mut [u8]) -> WriteStepped
 }
 
 // 1, 2; wait (also while a taken burst waits for confirmations); 3, else a frame of that length.
-pub fn write_next_frame(w: Writer, buffer: &[u8], out: &mut [u8]) -> WriteStepped
+pub fn write_next_frame(w: Writer, buffer: &[u8], out: &mut [u8]) -> Stepped<Writer>
     ensures { (stepped result ≡ next_of w buffer.now out.old) × (out.new ≡ handing (next_of w buffer.now out.old).says (frame_of (begun_of w).sender buffer.now) out.old) × Counts w (frame_of (begun_of w).sender buffer.now) (stepped result) }
 {
     let ok = lent(w, buffer.len());
     let ended = w.sender.ended;
     match status::admit(ok, ended) {
-        Entry::Closed(why) => write_record::refused(w, why),
-        Entry::Open => {
+        Err(why) => Stepped::refused(w, why),
+        Ok(()) => {
             if held_up(w) {
-                WriteStepped {
-                    writer: w,
-                    answer: Answer::Wait,
-                }
+                Stepped { left: w, answer: Answer::Wait }
             } else {
                 if w.pending {
                     first(w, buffer, out)
@@ -122,33 +104,27 @@ pub fn write_next_frame(w: Writer, buffer: &[u8], out: &mut [u8]) -> WriteSteppe
 }
 
 // A taken burst waits: only the count is left, and at zero the burst starts.
-fn counted(mut w: Writer, n: u32) -> WriteStepped
+fn counted(mut w: Writer, n: u32) -> Stepped<Writer>
     ensures { stepped result ≡ counted_of w n }
 {
     if n == 0 {
-        return WriteStepped {
-            writer: start(w),
-            answer: Answer::Taken,
-        };
+        return Stepped { left: start(w), answer: Answer::Taken };
     }
     let mut s = w.sender;
     s.unanswered = n;
     w.sender = s;
-    WriteStepped {
-        writer: w,
-        answer: Answer::Taken,
-    }
+    Stepped { left: w, answer: Answer::Taken }
 }
 
 // 1, 2; then the sending port's step, or, while a taken burst waits, the count left.
-fn confirmed(w: Writer, step: Stepped, n: u32) -> WriteStepped
-    ensures { stepped result ≡ confirmed_of w (sender.stepped step) n }
+fn confirmed(w: Writer, step: Stepped<Sender>, n: u32) -> Stepped<Writer>
+    ensures { stepped result ≡ confirmed_of w (stepped step) n }
 {
     let ok = write_record::writer_holds(w);
     let ended = w.sender.ended;
     match status::admit(ok, ended) {
-        Entry::Closed(why) => write_record::refused(w, why),
-        Entry::Open => {
+        Err(why) => Stepped::refused(w, why),
+        Ok(()) => {
             if held_up(w) {
                 counted(w, n)
             } else {
@@ -159,14 +135,14 @@ fn confirmed(w: Writer, step: Stepped, n: u32) -> WriteStepped
 }
 
 // 1, 2, 4; a burst is taken: taken; else taken, delivered, retry, or 28 (a NAK is pending).
-pub fn write_ack_received(w: Writer) -> WriteStepped
+pub fn write_ack_received(w: Writer) -> Stepped<Writer>
     ensures { (stepped result ≡ ack_of w) × Counts w [] (stepped result) }
 {
     let ok = write_record::writer_holds(w);
     let s = w.sender;
     match status::confirmable(ok, s.ended, s.unanswered != 0) {
-        Entry::Closed(why) => write_record::refused(w, why),
-        Entry::Open => {
+        Err(why) => Stepped::refused(w, why),
+        Ok(()) => {
             if held_up(w) {
                 counted(w, sender_steps::less_one(s.unanswered))
             } else {
@@ -177,7 +153,7 @@ pub fn write_ack_received(w: Writer) -> WriteStepped
 }
 
 // 1, 2, 4; a burst is taken: taken; else taken, retry, or 28.
-pub fn write_nak_received(w: Writer) -> WriteStepped
+pub fn write_nak_received(w: Writer) -> Stepped<Writer>
     ensures { (stepped result ≡ nak_of w) × Counts w [] (stepped result) }
 {
     let s = w.sender;
@@ -186,7 +162,7 @@ pub fn write_nak_received(w: Writer) -> WriteStepped
 }
 
 // 1, 2, 4; a burst is taken: taken; else retry, 28 (a NAK is pending) or 29.
-pub fn write_ack_nak_timeout(w: Writer) -> WriteStepped
+pub fn write_ack_nak_timeout(w: Writer) -> Stepped<Writer>
     ensures { (stepped result ≡ timeout_of w) × Counts w [] (stepped result) }
 {
     let s = w.sender;
@@ -194,7 +170,7 @@ pub fn write_ack_nak_timeout(w: Writer) -> WriteStepped
 }
 
 // 1, 2; unchanged; a burst is taken: taken; else retry, 28 (a NAK is pending) or 30.
-pub fn write_connection_lost(w: Writer) -> WriteStepped
+pub fn write_connection_lost(w: Writer) -> Stepped<Writer>
     ensures { (stepped result ≡ cut_of w) × Counts w [] (stepped result) }
 {
     let s = w.sender;
@@ -202,13 +178,13 @@ pub fn write_connection_lost(w: Writer) -> WriteStepped
 }
 
 // 1, 2, else 31.
-pub fn write_nexus_lost(w: Writer) -> WriteStepped
+pub fn write_nexus_lost(w: Writer) -> Stepped<Writer>
     ensures { (stepped result ≡ loss_of w) × Counts w [] (stepped result) }
 {
     let ok = write_record::writer_holds(w);
     let s = w.sender;
     match status::admit(ok, s.ended) {
-        Entry::Closed(why) => write_record::refused(w, why),
-        Entry::Open => lift(w, sender::nexus_lost(s)),
+        Err(why) => Stepped::refused(w, why),
+        Ok(()) => lift(w, sender::nexus_lost(s)),
     }
 }

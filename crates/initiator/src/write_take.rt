@@ -1,19 +1,19 @@
 // Arrivals of any bytes at the initiator of a write command: XFER_RDY and RESPONSE.
 ghost use Rattle.std.specs.Prelude.{◌≡◌, true, [], ◌+◌, ◌^◌, ◌≤◌, ◌<◌, ltb, length, take};
+ghost use Rattle.status.specs.Stepped.{stepped};
 ghost use Rattle.status.specs.Answer.{says};
 ghost use Rattle.status.specs.Result.{Result};
 ghost use Rattle.status.specs.Number.{failure_number};
 ghost use Rattle.transfer.specs.Limits.{limits_hold};
-ghost use Rattle.initiator.specs.WriteRecord.{stepped};
 ghost use Rattle.initiator.specs.WriteCount.{Counts};
 ghost use Rattle.initiator.specs.WriteTake.{ended_of, failed_of, previous, all_handed, fits_of, repeat_of, disposition_of, limit_of, asked_of, next_taken, burst_taken, xfer_rdy_taken, opened_by, response_of, taken_of, write_arrival_of};
 
-use crate::types::{WriteStepped, Writer, XferRdyDisposition};
+use crate::types::{Writer, XferRdyDisposition};
 use crate::write_record;
-use arrival::{Accepted, Arrived, Class, Role};
-use frame::{Header, ResponseIu, XferRdy, XferRdyIu};
+use arrival::{Arrived, Class, Role};
+use frame::{Header, XferRdy};
 use sender::Burst;
-use status::{Answer, Entry, Failure, Opened, Part, Refusal};
+use status::{Answer, Failure, Opened, Part, Refusal, Stepped};
 
 // The record has ended: nothing is unanswered and no NAK pending.
 fn ended(mut w: Writer) -> Writer
@@ -27,14 +27,11 @@ fn ended(mut w: Writer) -> Writer
     w
 }
 
-fn failed(w: Writer, why: Failure) -> WriteStepped
+fn failed(w: Writer, why: Failure) -> Stepped<Writer>
     ensures { stepped result ≡ failed_of w (failure_number why) }
 {
     let s = w.sender;
-    WriteStepped {
-        writer: ended(w),
-        answer: Answer::Failed(why, s.frames),
-    }
+    Stepped { left: ended(w), answer: Answer::Failed(why, s.frames) }
 }
 
 // The previous burst is the last one taken, started or not.
@@ -62,20 +59,20 @@ fn all_handed(w: Writer) -> bool
 }
 
 // 25, else the disposition v.
-fn fits(w: Writer, x: XferRdy, v: XferRdyDisposition) -> XferRdyDisposition
-    ensures { result ≡ fits_of w x v }
+fn fits(w: Writer, x: XferRdy, v: XferRdyDisposition) -> Result<XferRdyDisposition, Failure>
+    ensures { result ≡ fits_of w x (Ok v) }
 {
     let t = w.sender.transfer;
     let past = (x.offset as u64) + (x.len as u64);
     if (x.len == 0) | ((t.count as u64) < past) {
-        XferRdyDisposition::Fail(Failure::XferRdyIncorrectWriteDataLength)
+        Err(Failure::XferRdyIncorrectWriteDataLength)
     } else {
-        v
+        Ok(v)
     }
 }
 
 // 25 where its length is not that of the burst it repeats, else as it fits.
-fn repeated(w: Writer, x: XferRdy) -> XferRdyDisposition
+fn repeated(w: Writer, x: XferRdy) -> Result<XferRdyDisposition, Failure>
     ensures { result ≡ repeat_of w x }
 {
     let p = previous(w);
@@ -83,7 +80,7 @@ fn repeated(w: Writer, x: XferRdy) -> XferRdyDisposition
     if past == (p.end as u64) {
         return fits(w, x, XferRdyDisposition::Repeat);
     }
-    XferRdyDisposition::Fail(Failure::XferRdyIncorrectWriteDataLength)
+    Err(Failure::XferRdyIncorrectWriteDataLength)
 }
 
 // There is a burst to repeat: before any is taken the record has an empty one.
@@ -94,7 +91,7 @@ fn repeatable(p: Burst) -> bool
 }
 
 // 27, 26, then 25.
-fn judge(w: Writer, x: XferRdy, retransmit: bool) -> XferRdyDisposition
+fn judge(w: Writer, x: XferRdy, retransmit: bool) -> Result<XferRdyDisposition, Failure>
     ensures { result ≡ disposition_of w x retransmit }
 {
     let p = previous(w);
@@ -107,9 +104,9 @@ fn judge(w: Writer, x: XferRdy, retransmit: bool) -> XferRdyDisposition
         if all {
             return fits(w, x, XferRdyDisposition::Next);
         }
-        return XferRdyDisposition::Fail(Failure::XferRdyNotExpected);
+        return Err(Failure::XferRdyNotExpected);
     }
-    XferRdyDisposition::Fail(Failure::XferRdyRequestedOffsetError)
+    Err(Failure::XferRdyRequestedOffsetError)
 }
 
 // RETRY DATA FRAMES zero makes the burst's limit 0.
@@ -149,70 +146,61 @@ fn next_taken(w: Writer) -> Answer
 }
 
 // The new burst starts once nothing is unanswered.
-fn taken(mut w: Writer, b: Burst, a: Answer) -> WriteStepped
+fn taken(mut w: Writer, b: Burst, a: Answer) -> Stepped<Writer>
     ensures { stepped result ≡ burst_taken w b (says a) }
 {
     let s = w.sender;
     if s.unanswered == 0 {
         let t = s.transfer;
-        return WriteStepped {
-            writer: write_record::begin(t, b),
-            answer: a,
-        };
+        return Stepped { left: write_record::begin(t, b), answer: a };
     }
     w.pending = true;
     w.taken = b;
-    WriteStepped {
-        writer: w,
-        answer: a,
-    }
+    Stepped { left: w, answer: a }
 }
 
 // 23, 24, 27, 26, 25, else taken.
-fn xfer_rdy(w: Writer, h: Header, iu: &[u8]) -> WriteStepped
+fn xfer_rdy(w: Writer, h: Header, iu: &[u8]) -> Stepped<Writer>
     requires { limits_hold w.sender.transfer ≡ true }
     ensures { stepped result ≡ xfer_rdy_taken w h iu.now }
 {
     match frame::read_xfer_rdy(iu) {
-        XferRdyIu::Failed(why) => failed(w, why),
-        XferRdyIu::Taken(x) => {
+        Err(why) => failed(w, why),
+        Ok(x) => {
             let flags = h.flags;
             match judge(w, x, flags.retransmit) {
-                XferRdyDisposition::Fail(why) => failed(w, why),
-                XferRdyDisposition::Next => taken(w, asked(w, h, x), next_taken(w)),
-                XferRdyDisposition::Repeat => taken(w, asked(w, h, x), Answer::Repeated),
+                Err(why) => failed(w, why),
+                Ok(XferRdyDisposition::Next) => taken(w, asked(w, h, x), next_taken(w)),
+                Ok(XferRdyDisposition::Repeat) => taken(w, asked(w, h, x), Answer::Repeated),
             }
         }
     }
 }
 
 // The command has ended, with what the RESPONSE says.
-fn opened(w: Writer, iu: Part, o: Opened) -> WriteStepped
+fn opened(w: Writer, iu: Part, o: Opened) -> Stepped<Writer>
     ensures { stepped result ≡ opened_by (Result.value o) w iu.start iu.len }
 {
     let s = w.sender;
-    WriteStepped {
-        writer: ended(w),
-        answer: Answer::Response {
+    Stepped { left: ended(w), answer: Answer::Response {
             iu: iu,
             opened: o,
             frames: s.frames,
-        },
-    }
+        } }
 }
 
 // A RESPONSE, its IU at that place of the frame: 32, 34, else the command has ended.
-fn response(w: Writer, at: Part, iu: &[u8]) -> WriteStepped
+fn response(w: Writer, at: Part, iu: &[u8]) -> Stepped<Writer>
     ensures { stepped result ≡ response_of w at.start at.len iu.now }
 {
     match frame::read_response(iu) {
-        ResponseIu::Failed(why) => failed(w, why),
-        ResponseIu::Taken(o) => opened(w, at, o),
+        Err(why) => failed(w, why),
+        Ok(o) => opened(w, at, o),
     }
 }
 
 // A frame that has passed 5 to 8.
-fn take(w: Writer, a: Arrived, bytes: &[u8]) -> WriteStepped
+fn take(w: Writer, a: Arrived, bytes: &[u8]) -> Stepped<Writer>
     requires { (a.start + a.len ≤ length bytes.now) × (limits_hold w.sender.transfer ≡ true) }
     ensures { stepped result ≡ taken_of a.class w a bytes.now }
 {
@@ -228,24 +216,24 @@ fn take(w: Writer, a: Arrived, bytes: &[u8]) -> WriteStepped
     match class {
         Class::XferRdy => xfer_rdy(w, h, iu),
         Class::Response => response(w, at, iu),
-        Class::Data => write_record::refused(w, Refusal::UnexpectedFrameType),
-        Class::Other => write_record::refused(w, Refusal::UnexpectedFrameType),
+        Class::Data => Stepped::refused(w, Refusal::UnexpectedFrameType),
+        Class::Other => Stepped::refused(w, Refusal::UnexpectedFrameType),
     }
 }
 
 // 1, 2, 5, 6, 7, 8; XFER_RDY 23, 24, 27, 26, 25, else which burst it is for; RESPONSE 32, 34, else where its IU stands,
 // kind, status and bytes of sense data.
-pub fn write_frame_received(w: Writer, bytes: &[u8]) -> WriteStepped
+pub fn write_frame_received(w: Writer, bytes: &[u8]) -> Stepped<Writer>
     ensures { (stepped result ≡ write_arrival_of w bytes.now) × Counts w [] (stepped result) }
 {
     let ok = write_record::writer_holds(w);
     let s = w.sender;
     let t = s.transfer;
     match status::admit(ok, s.ended) {
-        Entry::Closed(why) => write_record::refused(w, why),
-        Entry::Open => match arrival::accept(Role::WriteInitiator, t, bytes) {
-            Accepted::Refused(why) => write_record::refused(w, why),
-            Accepted::Frame(a) => take(w, a, bytes),
+        Err(why) => Stepped::refused(w, why),
+        Ok(()) => match arrival::accept(Role::WriteInitiator, t, bytes) {
+            Err(why) => Stepped::refused(w, why),
+            Ok(a) => take(w, a, bytes),
         },
     }
 }

@@ -10,7 +10,7 @@ ghost use Rattle.ladder_print.specs.Room.{Tries};
 
 use crate::types::Printed;
 use crate::{climb, data, put};
-use ladder_run::{Ladder, Setup};
+use ladder_run::Ladder;
 use ladder_text::{ROOM, Run, RunFile};
 
 // The ladder from its start, over the fates from place `at` of the input on. It stays a function of its own, so that its buffers are in no caller's frame.
@@ -61,8 +61,8 @@ fn run_if_room(r: Run, input: &[u8], at: usize, out: &mut [u8]) -> Printed
     ensures { Tries (set_up_text (set_up_of r) r.count (map fate_number (fates_at input.now at))) out.old result out.new }
 {
     match ladder_run::set_up(r) {
-        Setup::Refused(_) => Printed::Text(put::refused(out, 1)),
-        Setup::Ready(l) => from_start_if_room(l, r.count, input, at, out),
+        Err(_) => Printed::Text(put::refused(out, 1)),
+        Ok(l) => from_start_if_room(l, r.count, input, at, out),
     }
 }
 

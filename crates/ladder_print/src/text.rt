@@ -10,7 +10,7 @@ ghost use Rattle.ladder_print.specs.Room.{PrintsIfRoom};
 
 use crate::types::{Printed, TEXT_MOST};
 use crate::{climb, data, put, run as trying};
-use ladder_run::{Ladder, Setup};
+use ladder_run::Ladder;
 use ladder_text::{ROOM, Run, RunFile};
 
 // The ladder from its start, over the fates from place `at` of the input on.
@@ -32,8 +32,8 @@ fn run(r: Run, input: &[u8], at: usize, out: &mut [u8]) -> usize
     ensures { Puts out.old 0 (set_up_text (set_up_of r) r.count (map fate_number (fates_at input.now at))) result out.new × (result ≤ TEXT-MOST) }
 {
     match ladder_run::set_up(r) {
-        Setup::Refused(_) => put::refused(out, 1),
-        Setup::Ready(l) => from_start(l, r.count, input, at, out),
+        Err(_) => put::refused(out, 1),
+        Ok(l) => from_start(l, r.count, input, at, out),
     }
 }
 

@@ -11,26 +11,25 @@ use Rattle.transfer.specs.declared.Transfer.{Transfer}
 use Rattle.initiator.specs.WriteRecord as initiator
 use Rattle.initiator.specs.WriteTake.{write_arrival_of}
 use Rattle.initiator.specs.declared.types.Writer.{Writer}
-use Rattle.initiator.specs.declared.types.WriteStepped.{WriteStepped}
 use Rattle.target.specs.Record as target
 use Rattle.target.specs.Transmit.{next_of, frame_of}
 use Rattle.target.specs.Confirmation.{ack_of}
 use Rattle.target.specs.declared.types.Target.{Target}
-use Rattle.target.specs.declared.types.WriteStepped.{WriteStepped as TargetStepped}
 use Rattle.link.specs.Claim.{xfer_rdy_sent}
 use Rattle.ladder_run.specs.Row.{area, handed}
 use Rattle.ladder_run.specs.Setup.{fresh, exchanged}
 use Rattle.ladder_run.specs.declared.types.Sending.TheVariants as sending
 use Rattle.ladder_run.specs.declared.types.Receiving.TheVariants as receiving
 use Rattle.ladder_run.specs.declared.types.Ladder.{Ladder}
+use Rattle.status.specs.Stepped.{stepped}
 
 -- what a set_up of a transfer made as t answers, by its outcome
 pub set_up_says : {X : Type 0} {o : Result X} (setUp : Transfer → Result X) {t u : Transfer} {m : Result X} → t ≡ u → m ≡ setUp t → m ≡ o → o ≡ setUp u
 set_up_says setUp p q r = sym r ∙ q ∙ ap setUp p
 
 -- the XFER_RDY handed out as x in the area e, taken by v, acknowledged by z
-pub exchange_is : (w : Writer) (y : Target) (x : TargetStepped) (v : WriteStepped) (z : TargetStepped) {e : List ℕ} {n : ℕ} {l : Ladder} → target.stepped x ≡ next_of y area → e ≡ handing (next_of y area).says (frame_of y) area →
-    n ≡ handed (says x.answer) → initiator.stepped v ≡ write_arrival_of w (take (n - 0) e) → target.stepped z ≡ ack_of x.target → l ≡ fresh (sending.Write v.writer) (receiving.Write z.target) → l ≡ exchanged w y
+pub exchange_is : (w : Writer) (y : Target) (x : TargetStepped) (v : WriteStepped) (z : TargetStepped) {e : List ℕ} {n : ℕ} {l : Ladder} → stepped x ≡ next_of y area → e ≡ handing (next_of y area).says (frame_of y) area →
+    n ≡ handed (says x.answer) → stepped v ≡ write_arrival_of w (take (n - 0) e) → stepped z ≡ ack_of x.target → l ≡ fresh (sending.Write v.writer) (receiving.Write z.target) → l ≡ exchanged w y
 unfolding exchanged
 exchange_is w y x v z {e} {n} p q c t a f =
     let m : n - 0 ≡ handed (next_of y area).says = sub-zero n ∙ c ∙ ap (λ (u : Left Target). handed u.says) p in

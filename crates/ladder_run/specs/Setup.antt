@@ -26,8 +26,6 @@ use Rattle.ladder_run.specs.declared.types.Receiving.{Receiving}
 use Rattle.ladder_run.specs.declared.types.Receiving.TheVariants as receiving
 use Rattle.ladder_run.specs.declared.types.Report.TheVariants.{Nothing}
 use Rattle.ladder_run.specs.declared.types.Ladder.{Ladder}
-use Rattle.ladder_run.specs.declared.types.Setup.{Setup}
-use Rattle.ladder_run.specs.declared.types.Setup.TheVariants.{Ready, Refused}
 
 -- hashed addresses and tag: any would do
 abbrev pub INITIATOR : ℕ
@@ -71,8 +69,3 @@ ready_set_up Write r = ready_write (initiator.set_up_write_of (transfer_of r tru
 -- "takes counts to 65,536"; the other limits are the transfer's: 1
 unfoldable pub set_up_of : Run → Result Ladder
 set_up_of r = pick (leb r.count COUNT-MOST) (ready_set_up r.direction r) (Result.number 1)
-
--- what the set_up answers: the ladder, or a number
-abbrev pub made : Setup → Result Ladder
-made (Ready l) = Result.value l
-made (Refused why) = Result.number (refusal_number why)

@@ -1,5 +1,6 @@
 // The two ports of a ladder, of either direction.
 ghost use Rattle.std.specs.Prelude.{◌≡◌};
+ghost use Rattle.status.specs.Stepped.{stepped};
 ghost use Rattle.sender_steps.specs.Record as sender;
 ghost use Rattle.initiator.specs.WriteRecord as initiator;
 ghost use Rattle.link.specs.Ports.{lending, Signal};
@@ -7,9 +8,10 @@ ghost use Rattle.ladder_run.specs.Ends.{onto, asked, arrived, ask_of, signalled_
 ghost use Rattle.ladder_run.specs.declared.types.Sending.TheVariants as sending;
 
 use crate::types::{Arrived, Asked, Receiving, Sending};
+use status::Stepped;
 
-fn read_left(y: sender::Stepped) -> Asked
-    ensures { asked result ≡ onto sending.Read (sender.stepped y) }
+fn read_left(y: Stepped<Sender>) -> Asked
+    ensures { asked result ≡ onto sending.Read (stepped y) }
 {
     let left = y.sender;
     let answer = y.answer;
@@ -19,8 +21,8 @@ fn read_left(y: sender::Stepped) -> Asked
     }
 }
 
-fn write_left(y: initiator::WriteStepped) -> Asked
-    ensures { asked result ≡ onto sending.Write (initiator.stepped y) }
+fn write_left(y: Stepped<Writer>) -> Asked
+    ensures { asked result ≡ onto sending.Write (stepped y) }
 {
     let left = y.writer;
     let answer = y.answer;

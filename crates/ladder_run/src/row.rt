@@ -6,7 +6,6 @@ ghost use Rattle.ladder_run.specs.Row.{handed, receipt_of, bit, shown_of, row_of
 
 use crate::types::{Due, Ladder, Met, Out, Receiving, Report, Sending, Shown};
 use crate::{ends, fates};
-use frame::Decoded;
 use ladder_text::{Fate, Receipt, Row};
 use status::Answer;
 
@@ -52,7 +51,7 @@ fn shown(f: &[u8]) -> Shown
     ensures { result ≡ shown_of (decode f.now) }
 {
     match frame::read(f) {
-        Decoded::Frame(p) => {
+        Ok(p) => {
             let h = p.header;
             let flags = h.flags;
             let n = p.len;
@@ -62,7 +61,7 @@ fn shown(f: &[u8]) -> Shown
                 cdp: bit(flags.cdp),
             }
         }
-        Decoded::Refused(_) => Shown {
+        Err(_) => Shown {
             offset: 0,
             bytes: 0,
             cdp: 0,

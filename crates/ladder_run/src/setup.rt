@@ -1,11 +1,12 @@
 // Both ends set up.
 ghost use Rattle.std.specs.Prelude.{◌≡◌, true, false};
-ghost use Rattle.ladder_run.specs.Setup.{made, transfer_of, fresh, exchanged, ready_set_up, set_up_of, TARGET, INITIATOR};
+ghost use Rattle.status.specs.Result.{or_refusal};
+ghost use Rattle.ladder_run.specs.Setup.{transfer_of, fresh, exchanged, ready_set_up, set_up_of, TARGET, INITIATOR};
 ghost use Rattle.ladder_text.specs.declared.types.Direction.TheVariants as direction;
 
 use crate::row;
-use crate::types::{Ladder, Receiving, Report, Sending, Setup};
-use initiator::{WriteSetup, Writer};
+use crate::types::{Ladder, Receiving, Report, Sending};
+use initiator::Writer;
 use ladder_text::{Direction, Run};
 use status::Refusal;
 use target::Target;
@@ -44,16 +45,16 @@ fn fresh(s: Sending, r: Receiving) -> Ladder
     }
 }
 
-fn read(r: Run) -> Setup
-    ensures { made result ≡ ready_set_up direction.Read r }
+fn read(r: Run) -> Result<Ladder, Refusal>
+    ensures { or_refusal result ≡ ready_set_up direction.Read r }
 {
     let t = transfer(r, false, Ladder::TARGET, Ladder::INITIATOR);
     let u = transfer(r, false, Ladder::INITIATOR, Ladder::TARGET);
     match target::set_up_read(t) {
-        target::ReadSetup::Refused(why) => Setup::Refused(why),
-        target::ReadSetup::Ready(s) => match initiator::set_up_read(u) {
-            initiator::ReadSetup::Refused(why) => Setup::Refused(why),
-            initiator::ReadSetup::Ready(x) => Setup::Ready(fresh(
+        Err(why) => Err(why),
+        Ok(s) => match initiator::set_up_read(u) {
+            Err(why) => Err(why),
+            Ok(x) => Ok(fresh(
                 Sending::Read(s),
                 Receiving::Read(x),
             )),
@@ -77,26 +78,26 @@ fn exchange(w: Writer, y: Target) -> Ladder
     fresh(Sending::Write(s), Receiving::Write(x))
 }
 
-fn write(r: Run) -> Setup
-    ensures { made result ≡ ready_set_up direction.Write r }
+fn write(r: Run) -> Result<Ladder, Refusal>
+    ensures { or_refusal result ≡ ready_set_up direction.Write r }
 {
     let t = transfer(r, true, Ladder::INITIATOR, Ladder::TARGET);
     let u = transfer(r, true, Ladder::TARGET, Ladder::INITIATOR);
     match initiator::set_up_write(t) {
-        WriteSetup::Refused(why) => Setup::Refused(why),
-        WriteSetup::Ready(w) => match target::set_up_write(u) {
-            target::WriteSetup::Refused(why) => Setup::Refused(why),
-            target::WriteSetup::Ready(y) => Setup::Ready(exchange(w, y)),
+        Err(why) => Err(why),
+        Ok(w) => match target::set_up_write(u) {
+            Err(why) => Err(why),
+            Ok(y) => Ok(exchange(w, y)),
         },
     }
 }
 
 // Line one of a run file: 1, else the ladder at its start.
-pub fn set_up(r: Run) -> Setup
-    ensures { made result ≡ set_up_of r }
+pub fn set_up(r: Run) -> Result<Ladder, Refusal>
+    ensures { or_refusal result ≡ set_up_of r }
 {
     if Ladder::COUNT_MOST < r.count {
-        return Setup::Refused(Refusal::BadRequest);
+        return Err(Refusal::BadRequest);
     }
     let d = r.direction;
     match d {

@@ -56,12 +56,6 @@ impl Ladder {
     pub const TAG: u16 = 0x0012;
 }
 
-#[derive(Clone, Copy)]
-pub enum Setup {
-    Ready(Ladder),
-    Refused(Refusal),
-}
-
 // What a call on the sending port leaves and answers.
 #[derive(Clone, Copy)]
 pub struct Asked {

@@ -10,7 +10,6 @@ use Rattle.status.specs.Entry.{entry_of}
 use Rattle.status.specs.Answer.{Left, unless}
 use Rattle.status.specs.Result.{Result}
 use Rattle.status.specs.Entry.{Entry}
-use Rattle.std.specs.Prelude.{Ok, Err}
 use Rattle.status.proofs.OpenedCall.{opened}
 use Rattle.status.proofs.Leaves.{unless_gives}
 use Rattle.frame.specs.Read.{header_in, iu_length, iu_of}
@@ -23,8 +22,7 @@ use Rattle.arrival.proofs.Passed.{passed, arrived_in}
 use Rattle.receiver_steps.specs.Record.{holds_of, lent_of}
 use Rattle.receiver_steps.specs.DataFrame.{disposition_of, taken_of as handled, storing}
 use Rattle.receiver_steps.specs.declared.types.Receiver.{Receiver}
-use Rattle.receiver_steps.specs.declared.types.DataDisposition.{DataDisposition}
-use Rattle.receiver_steps.specs.declared.types.DataDisposition.TheVariants.{Discard, Skip, Fail, Store}
+use Rattle.receiver_steps.specs.declared.types.DataDisposition.TheVariants.{Discard, Skip, Store}
 use Rattle.receiver_steps.proofs.Held.{held, lent}
 use Rattle.receiver_steps.proofs.Judged.{Inside, Judged, judged}
 use Rattle.receiver_steps.proofs.Buffer.{put_down, placed_length}
@@ -36,6 +34,8 @@ use Rattle.initiator.proofs.ReadViews.{arrival_gives}
 use Rattle.link.specs.Calls.{ReaderCall}
 use Rattle.link.specs.OnlyTheRead.{OutsideSame, OnlyTheRead}
 use Rattle.link.proofs.Placed.{placed_under, placed_over}
+use Rattle.std.specs.Prelude.{Ok, Err}
+use Rattle.receiver_steps.specs.DataFrame.{Disposition}
 
 module _ (r : Receiver) (b : List ℕ) where
   abbrev Same : List ℕ → Type 0
@@ -55,22 +55,22 @@ module _ (r : Receiver) (b : List ℕ) where
         bytes = λ i. ⊎_elim (λ u. placed_under b iu offset fits i (omega (arith, n.low, h.start_base))) (λ u. placed_over b iu offset fits i (omega (arith, n.high, h.end_past)));
       }
 
-  stored : (offset : ℕ) (cdp : Bool) (n : ℕ) → disposition_of r offset cdp n ≡ Store → Inside r offset n
+  stored : (offset : ℕ) (cdp : Bool) (n : ℕ) → disposition_of r offset cdp n ≡ (Ok Store) → Inside r offset n
   stored offset cdp n v = go (subst (Judged r offset cdp n) v (judged r offset cdp n))
     where
-      go : Judged r offset cdp n Store → Inside r offset n
+      go : Judged r offset cdp n (Ok Store) → Inside r offset n
       go (Judged.stored i s) = i
 
   core : (offset : ℕ) (cdp : Bool) (iu : List ℕ) → Same (storing (arrival_of r offset cdp (length iu) (length b)).says offset iu b)
   unfolding arrival_of
   core offset cdp iu = go (entry_of (lent_of r (length b)) r.ended) (disposition_of r offset cdp (length iu)) refl refl
     where
-      go : (e : Entry) (v : DataDisposition) → e ≡ entry_of (lent_of r (length b)) r.ended → disposition_of r offset cdp (length iu) ≡ v → Same (storing (unless e r (handled v r offset (length iu))).says offset iu b)
+      go : (e : Entry) (v : Disposition) → e ≡ entry_of (lent_of r (length b)) r.ended → disposition_of r offset cdp (length iu) ≡ v → Same (storing (unless e r (handled v r offset (length iu))).says offset iu b)
       go (Err w) v p q = same
-      go (Ok tt) Discard p q = same
-      go (Ok tt) Skip p q = same
-      go (Ok tt) (Fail w) p q = same
-      go (Ok tt) Store p q = subst Same (sym (put_down _ offset iu b)) (put offset iu (opened _ _ p).0 (stored offset cdp (length iu) q))
+      go (Ok tt) (Ok Discard) p q = same
+      go (Ok tt) (Ok Skip) p q = same
+      go (Ok tt) (Err w) p q = same
+      go (Ok tt) (Ok Store) p q = subst Same (sym (put_down _ offset iu b)) (put offset iu (opened _ _ p).0 (stored offset cdp (length iu) q))
 
   -- a frame that has passed 5 to 8
   module _ (f : List ℕ) (inside : 24 + iu_length f ≤ length f) where

@@ -15,9 +15,9 @@ use Rattle.receiver.specs.Record.{loss_of}
 use Rattle.receiver_steps.specs.DataFrame.{disposition_of, waiting_of, stored_of, stored_by, taken_of, data_step_of}
 use Rattle.receiver.specs.DataFrame.{arrival_of}
 use Rattle.receiver_steps.specs.declared.types.Receiver.{Receiver}
-use Rattle.receiver_steps.specs.declared.types.DataDisposition.{DataDisposition}
 use Rattle.receiver_steps.proofs.Held.{Held, lent}
 use Rattle.receiver_steps.proofs.Judged.{Misplaced, Placed, Inside, OutOfStep, InStep, Judged, judged}
+use Rattle.receiver_steps.specs.DataFrame.{Disposition}
 
 -- a frame at a port that neither 1 nor 2 refuses
 pub data Arrived (r : Receiver) (offset : ℕ) (cdp : Bool) (n : ℕ) : Left Receiver → Type 0 where
@@ -38,7 +38,7 @@ abbrev pub Ended : Receiver → Type 0
 Ended r = r.ended ≡ true
 
 module _ (r : Receiver) (offset : ℕ) (cdp : Bool) (n : ℕ) where
-  taken : {v : DataDisposition} → Judged r offset cdp n v → Arrived r offset cdp n (taken_of v r offset n)
+  taken : {v : Disposition} → Judged r offset cdp n v → Arrived r offset cdp n (taken_of v r offset n)
   taken (Judged.full p) = Arrived.full p
   taken (Judged.misplaced o p) = Arrived.misplaced o p
   taken (Judged.long o p) = Arrived.long o p

@@ -9,8 +9,6 @@ use Rattle.transfer.specs.Limits.{past, limits_hold}
 use Rattle.transfer.specs.declared.Transfer.{Transfer}
 use Rattle.receiver_steps.specs.Record.{holds_of, beginning, failed_of}
 use Rattle.receiver_steps.specs.declared.types.Receiver.{Receiver}
-use Rattle.receiver.specs.declared.types.ReadSetup.{ReadSetup}
-use Rattle.receiver.specs.declared.types.ReadSetup.TheVariants.{Ready, Refused}
 
 abbrev pub set_up_tests : Transfer → List Bool
 set_up_tests t = limits_hold t ∷ not t.write ∷ []
@@ -18,11 +16,6 @@ set_up_tests t = limits_hold t ∷ not t.write ∷ []
 -- "a read is one burst from 0"; request K5: from its start instead, up to start plus count
 abbrev pub set_up_read_of : Transfer → Result Receiver
 set_up_read_of t = granted (all (set_up_tests t)) (beginning t t.start (past t))
-
--- what the set_up answers: the record, or a number
-abbrev pub made : ReadSetup → Result Receiver
-made (Ready r) = Result.value r
-made (Refused why) = Result.number (refusal_number why)
 
 -- "31: reported by the port layer"
 abbrev pub loss_of : Receiver → Left Receiver

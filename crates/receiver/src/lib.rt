@@ -3,9 +3,7 @@
 
 mod data_frame;
 mod record;
-mod types;
 
 pub use data_frame::data_received;
-pub use receiver_steps::{Receiver, Stepped};
+pub use receiver_steps::Receiver;
 pub use record::{nexus_lost, set_up_read};
-pub use types::ReadSetup;

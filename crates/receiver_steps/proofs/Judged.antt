@@ -11,10 +11,11 @@ use Rattle.status.specs.declared.words.Failure.TheVariants.{DataOffsetError, Too
 use Rattle.receiver_steps.specs.Record.{lent_of}
 use Rattle.receiver_steps.specs.DataFrame.{misplaced as misplacedOf, out_of_step, disposition_of}
 use Rattle.receiver_steps.specs.declared.types.Receiver.{Receiver}
-use Rattle.receiver_steps.specs.declared.types.DataDisposition.{DataDisposition}
-use Rattle.receiver_steps.specs.declared.types.DataDisposition.TheVariants.{Discard, Skip, Fail, Store}
+use Rattle.receiver_steps.specs.declared.types.DataDisposition.TheVariants.{Discard, Skip, Store}
 use Rattle.status.proofs.OpenedCall.{differ}
 use Rattle.receiver_steps.proofs.Held.{lent}
+use Rattle.std.specs.Prelude.{Ok, Err}
+use Rattle.receiver_steps.specs.DataFrame.{Disposition}
 
 -- number 20
 pub data Misplaced (r : Receiver) (offset : ℕ) (cdp : Bool) : Type 0 where
@@ -50,13 +51,13 @@ pub data InStep (r : Receiver) (offset : ℕ) (cdp : Bool) : Type 0 where
   pointed : 0 < r.transfer.limit → cdp ≡ true → offset ≤ r.filled → InStep r offset cdp
   next : 0 < r.transfer.limit → cdp ≡ false → r.waiting ≡ false → offset ≡ r.expected → InStep r offset cdp
 
-pub data Judged (r : Receiver) (offset : ℕ) (cdp : Bool) (n : ℕ) : DataDisposition → Type 0 where
-  full : r.filled ≡ r.end → Judged r offset cdp n Discard
-  misplaced : (r.filled ≡ r.end → ⊥) → Misplaced r offset cdp → Judged r offset cdp n (Fail DataOffsetError)
-  long : Placed r offset cdp → r.end < offset + n → Judged r offset cdp n (Fail TooMuchData)
-  empty : Placed r offset cdp → n ≡ 0 → Judged r offset cdp n (Fail IncorrectDataLength)
-  skipped : Inside r offset n → OutOfStep r offset cdp → Judged r offset cdp n Skip
-  stored : Inside r offset n → InStep r offset cdp → Judged r offset cdp n Store
+pub data Judged (r : Receiver) (offset : ℕ) (cdp : Bool) (n : ℕ) : Disposition → Type 0 where
+  full : r.filled ≡ r.end → Judged r offset cdp n (Ok Discard)
+  misplaced : (r.filled ≡ r.end → ⊥) → Misplaced r offset cdp → Judged r offset cdp n (Err DataOffsetError)
+  long : Placed r offset cdp → r.end < offset + n → Judged r offset cdp n (Err TooMuchData)
+  empty : Placed r offset cdp → n ≡ 0 → Judged r offset cdp n (Err IncorrectDataLength)
+  skipped : Inside r offset n → OutOfStep r offset cdp → Judged r offset cdp n (Ok Skip)
+  stored : Inside r offset n → InStep r offset cdp → Judged r offset cdp n (Ok Store)
 
 -- the two tests of the definition, by their answer
 data Placing (r : Receiver) (offset : ℕ) (cdp : Bool) : Bool → Type 0 where
@@ -96,27 +97,27 @@ module _ (r : Receiver) (offset : ℕ) (cdp : Bool) where
   unfolding disposition_of pick
   judged n = go (eqb r.filled r.end) refl
     where
-      last : {t : Bool} → Inside r offset n → Stepping r offset cdp t → Judged r offset cdp n (pick t Skip Store)
+      last : {t : Bool} → Inside r offset n → Stepping r offset cdp t → Judged r offset cdp n (pick t (Ok Skip) (Ok Store))
       last i (out s) = skipped i s
       last i (inside s) = stored i s
 
-      behind : (b c : Bool) {d : Bool} → (r.filled ≡ r.end → ⊥) → Placing r offset cdp d → ltb r.end (offset + n) ≡ b → eqb n 0 ≡ c → Judged r offset cdp n (pick d (Fail DataOffsetError) (pick b (Fail TooMuchData) (pick c (Fail IncorrectDataLength) (pick (out_of_step r offset cdp) Skip Store))))
+      behind : (b c : Bool) {d : Bool} → (r.filled ≡ r.end → ⊥) → Placing r offset cdp d → ltb r.end (offset + n) ≡ b → eqb n 0 ≡ c → Judged r offset cdp n (pick d (Err DataOffsetError) (pick b (Err TooMuchData) (pick c (Err IncorrectDataLength) (pick (out_of_step r offset cdp) (Ok Skip) (Ok Store)))))
       behind b c u (wrong m) q s = misplaced u m
       behind true c u (right w) q s = long w (ltb-true _ _ q)
       behind false true u (right w) q s = empty w (eqb-true _ _ s)
       behind false false u (right w) q s = last (record { unfilled = u; low = w.low; high = ltb-false _ _ q; some = omega (arith, eqb-false n 0 s) }) (stepping w)
 
-      go : (a : Bool) → eqb r.filled r.end ≡ a → Judged r offset cdp n (pick a Discard (pick (misplacedOf r offset cdp) (Fail DataOffsetError) (pick (ltb r.end (offset + n)) (Fail TooMuchData) (pick (eqb n 0) (Fail IncorrectDataLength) (pick (out_of_step r offset cdp) Skip Store)))))
+      go : (a : Bool) → eqb r.filled r.end ≡ a → Judged r offset cdp n (pick a (Ok Discard) (pick (misplacedOf r offset cdp) (Err DataOffsetError) (pick (ltb r.end (offset + n)) (Err TooMuchData) (pick (eqb n 0) (Err IncorrectDataLength) (pick (out_of_step r offset cdp) (Ok Skip) (Ok Store))))))
       go true p = full (eqb-true _ _ p)
       go false p = behind (ltb r.end (offset + n)) (eqb n 0) (eqb-false _ _ p) (placing (eqb-false _ _ p)) refl refl
 
 -- what is stored lies in the burst
-pub within : (r : Receiver) (offset : ℕ) (cdp : Bool) (n : ℕ) → disposition_of r offset cdp n ≡ Store → offset + n ≤ r.end
+pub within : (r : Receiver) (offset : ℕ) (cdp : Bool) (n : ℕ) → disposition_of r offset cdp n ≡ (Ok Store) → offset + n ≤ r.end
 within r offset cdp n v = go (rw v at (judged r offset cdp n))
   where
-    go : Judged r offset cdp n Store → offset + n ≤ r.end
+    go : Judged r offset cdp n (Ok Store) → offset + n ≤ r.end
     go (stored i s) = i.high
 
 -- and fits the data buffer
-pub room : (r : Receiver) (offset : ℕ) (cdp : Bool) (n m : ℕ) → lent_of r m ≡ true → disposition_of r offset cdp n ≡ Store → offset + n ≤ m
+pub room : (r : Receiver) (offset : ℕ) (cdp : Bool) (n m : ℕ) → lent_of r m ≡ true → disposition_of r offset cdp n ≡ (Ok Store) → offset + n ≤ m
 room r offset cdp n m e v = omega (arith, (lent r m e).reach, within r offset cdp n v)

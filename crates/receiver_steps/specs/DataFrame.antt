@@ -9,7 +9,14 @@ use Rattle.receiver_steps.specs.Fields.{expected≔, filled≔, waiting≔}
 use Rattle.receiver_steps.specs.Record.{failed_of}
 use Rattle.receiver_steps.specs.declared.types.Receiver.{Receiver}
 use Rattle.receiver_steps.specs.declared.types.DataDisposition.{DataDisposition}
-use Rattle.receiver_steps.specs.declared.types.DataDisposition.TheVariants.{Discard, Skip, Fail, Store}
+use Rattle.receiver_steps.specs.declared.types.DataDisposition.TheVariants.{Discard, Skip, Store}
+use Rattle.status.specs.declared.words.Failure.{Failure}
+use Rattle.std.specs.Prelude as code
+use Rattle.std.specs.Prelude.{Ok, Err}
+
+-- what becomes of it, or the failure
+abbrev pub Disposition : Type 0
+Disposition = code.Result DataDisposition Failure
 
 -- "20: the offset is below base or not below end; or, retries off, not the expected one; or, retries on and CDP one, above the filled mark"
 unfoldable pub misplaced : Receiver → ℕ → Bool → Bool
@@ -22,13 +29,13 @@ unfoldable pub out_of_step : Receiver → ℕ → Bool → Bool
 out_of_step r offset cdp = ltb 0 r.transfer.limit && not cdp && (r.waiting || not (eqb offset r.expected))
 
 -- "Once filled, it .. discards DATA"; 20, 21 and 22 "are tested before the discards below"
-unfoldable pub disposition_of : Receiver → ℕ → Bool → ℕ → DataDisposition
+unfoldable pub disposition_of : Receiver → ℕ → Bool → ℕ → Disposition
 disposition_of r offset cdp n =
-    pick (eqb r.filled r.end) Discard
-    (pick (misplaced r offset cdp) (Fail DataOffsetError)
-    (pick (ltb r.end (offset + n)) (Fail TooMuchData)
-    (pick (eqb n 0) (Fail IncorrectDataLength)
-    (pick (out_of_step r offset cdp) Skip Store))))
+    pick (eqb r.filled r.end) (Ok Discard)
+    (pick (misplaced r offset cdp) (Err DataOffsetError)
+    (pick (ltb r.end (offset + n)) (Err TooMuchData)
+    (pick (eqb n 0) (Err IncorrectDataLength)
+    (pick (out_of_step r offset cdp) (Ok Skip) (Ok Store)))))
 
 -- "is discarded and waiting starts"
 abbrev pub waiting_of : Receiver → Receiver
@@ -42,11 +49,11 @@ stored_of r offset n = r with expected≔ (offset + n) with filled≔ (max r.fil
 abbrev pub stored_by : Receiver → ℕ → ℕ → Left Receiver
 stored_by r offset n = stored_of r offset n saying pick (eqb (max r.filled (offset + n)) r.end) Said.received Said.stored
 
-abbrev pub taken_of : DataDisposition → Receiver → ℕ → ℕ → Left Receiver
-taken_of Discard r offset n = r saying Said.word Word.discarded
-taken_of Skip r offset n = waiting_of r saying Said.word Word.discarded
-taken_of (Fail why) r offset n = failed_of r (failure_number why)
-taken_of Store r offset n = stored_by r offset n
+abbrev pub taken_of : Disposition → Receiver → ℕ → ℕ → Left Receiver
+taken_of (Ok Discard) r offset n = r saying Said.word Word.discarded
+taken_of (Ok Skip) r offset n = waiting_of r saying Said.word Word.discarded
+taken_of (Err why) r offset n = failed_of r (failure_number why)
+taken_of (Ok Store) r offset n = stored_by r offset n
 
 -- n data bytes at a buffer of m bytes: where 1 and 2 do not apply it is `arrival_of` of crate receiver; of number 1 only what the store leans on is tested, that the burst is in the buffer
 unfoldable pub data_step_of : Receiver → ℕ → Bool → ℕ → ℕ → Left Receiver

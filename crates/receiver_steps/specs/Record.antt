@@ -6,7 +6,6 @@ use Rattle.transfer.specs.Limits.{past, limits_hold}
 use Rattle.transfer.specs.declared.Transfer.{Transfer}
 use Rattle.receiver_steps.specs.Fields.{ended≔}
 use Rattle.receiver_steps.specs.declared.types.Receiver.{Receiver}
-use Rattle.receiver_steps.specs.declared.types.Stepped.{Stepped}
 
 -- 1: "a limit is broken, .. a record has marks outside base to end, .. expected above filled". Request K5: a read's burst lies from start to start plus count;
 -- a write's, from 0 to the count
@@ -33,10 +32,6 @@ lent_of r n = all (lent_tests r n)
 -- a burst of which nothing is stored yet
 abbrev pub beginning : Transfer → ℕ → ℕ → Receiver
 beginning t base end = record { transfer = t; base = base; end = end; expected = base; filled = base; waiting = false; ended = false }
-
--- what a step or an event leaves and answers
-abbrev pub stepped : Stepped → Left Receiver
-stepped x = x.receiver saying says x.answer
 
 -- "failures that end the port"
 abbrev pub failed_of : Receiver → ℕ → Left Receiver

@@ -1,12 +1,12 @@
 // One DATA frame that has passed 5 to 8, once 1 and 2 are tested.
 ghost use Rattle.std.specs.Prelude.{◌≡◌, ◌+◌, ◌^◌, ◌≤◌, ◌<◌, max, length};
+ghost use Rattle.status.specs.Stepped.{stepped};
 ghost use Rattle.frame.specs.Write.{placed};
-ghost use Rattle.receiver_steps.specs.Record.{stepped};
 ghost use Rattle.receiver_steps.specs.DataFrame.{misplaced, out_of_step, disposition_of, stored_by, taken_of, data_step_of, storing};
 
 use crate::record;
-use crate::types::{DataDisposition, Receiver, Stepped};
-use status::{Answer, Failure, Refusal};
+use crate::types::{DataDisposition, Receiver};
+use status::{Answer, Failure, Refusal, Stepped};
 
 // Number 20.
 fn is_misplaced(r: Receiver, offset: u32, cdp: bool) -> bool
@@ -29,55 +29,46 @@ fn is_out_of_step(r: Receiver, offset: u32, cdp: bool) -> bool
     (0 < t.limit) & !cdp & (r.waiting | (offset != r.expected))
 }
 
-fn judge(r: Receiver, offset: u32, cdp: bool, n: usize) -> DataDisposition
+fn judge(r: Receiver, offset: u32, cdp: bool, n: usize) -> Result<DataDisposition, Failure>
     requires { offset + n < 2 ^ 64 }
     ensures { result ≡ disposition_of r offset cdp n }
 {
     if r.filled == r.end {
-        return DataDisposition::Discard;
+        return Ok(DataDisposition::Discard);
     }
     if is_misplaced(r, offset, cdp) {
-        return DataDisposition::Fail(Failure::DataOffsetError);
+        return Err(Failure::DataOffsetError);
     }
     if (r.end as usize) < (offset as usize) + n {
-        return DataDisposition::Fail(Failure::TooMuchData);
+        return Err(Failure::TooMuchData);
     }
     if n == 0 {
-        return DataDisposition::Fail(Failure::IncorrectDataLength);
+        return Err(Failure::IncorrectDataLength);
     }
     if is_out_of_step(r, offset, cdp) {
-        return DataDisposition::Skip;
+        return Ok(DataDisposition::Skip);
     }
-    DataDisposition::Store
-}
-
-fn greater(a: u32, b: u32) -> u32
-    ensures { result ≡ max a b }
-{
-    if a < b {
-        return b;
-    }
-    a
+    Ok(DataDisposition::Store)
 }
 
 // The record once n bytes are stored at offset.
-fn stored(mut r: Receiver, offset: u32, n: u32) -> Stepped
+fn stored(mut r: Receiver, offset: u32, n: u32) -> Stepped<Receiver>
     requires { offset + n < 2 ^ 32 }
     ensures { stepped result ≡ stored_by r offset n }
 {
     let past = offset + n;
-    let filled = greater(r.filled, past);
+    let filled = r.filled.max(past);
     r.expected = past;
     r.filled = filled;
     r.waiting = false;
     if filled == r.end {
         return Stepped {
-            receiver: r,
+            left: r,
             answer: Answer::Received,
         };
     }
     Stepped {
-        receiver: r,
+        left: r,
         answer: Answer::Stored,
     }
 }
@@ -92,25 +83,25 @@ fn store(offset: usize, iu: &[u8], buffer: &mut [u8])
 }
 
 // The frame is judged, and done with as its disposition says.
-fn take(r: Receiver, offset: u32, cdp: bool, iu: &[u8], buffer: &mut [u8]) -> Stepped
+fn take(r: Receiver, offset: u32, cdp: bool, iu: &[u8], buffer: &mut [u8]) -> Stepped<Receiver>
     requires { r.end ≤ length buffer.old }
     ensures { (stepped result ≡ taken_of (disposition_of r offset cdp (length iu.now)) r offset (length iu.now)) × (buffer.new ≡ storing (taken_of (disposition_of r offset cdp (length iu.now)) r offset (length iu.now)).says offset iu.now buffer.old) }
 {
     match judge(r, offset, cdp, iu.len()) {
-        DataDisposition::Discard => Stepped {
-            receiver: r,
+        Ok(DataDisposition::Discard) => Stepped {
+            left: r,
             answer: Answer::Discarded,
         },
-        DataDisposition::Skip => {
+        Ok(DataDisposition::Skip) => {
             let mut w = r;
             w.waiting = true;
             Stepped {
-                receiver: w,
+                left: w,
                 answer: Answer::Discarded,
             }
         }
-        DataDisposition::Fail(why) => record::failed(r, why),
-        DataDisposition::Store => {
+        Err(why) => record::failed(r, why),
+        Ok(DataDisposition::Store) => {
             store(offset as usize, iu, buffer);
             stored(r, offset, iu.len() as u32)
         }
@@ -118,11 +109,17 @@ fn take(r: Receiver, offset: u32, cdp: bool, iu: &[u8], buffer: &mut [u8]) -> St
 }
 
 // 1 where the burst passes the buffer; discarded (filled); 20, 21, 22; discarded, stored or received.
-pub fn data_step(r: Receiver, offset: u32, cdp: bool, iu: &[u8], buffer: &mut [u8]) -> Stepped
+pub fn data_step(
+    r: Receiver,
+    offset: u32,
+    cdp: bool,
+    iu: &[u8],
+    buffer: &mut [u8],
+) -> Stepped<Receiver>
     ensures { (stepped result ≡ data_step_of r offset cdp (length iu.now) (length buffer.old)) × (buffer.new ≡ storing (data_step_of r offset cdp (length iu.now) (length buffer.old)).says offset iu.now buffer.old) }
 {
     if buffer.len() < (r.end as usize) {
-        return record::refused(r, Refusal::BadRequest);
+        return Stepped::refused(r, Refusal::BadRequest);
     }
     take(r, offset, cdp, iu, buffer)
 }

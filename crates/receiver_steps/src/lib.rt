@@ -6,5 +6,5 @@ mod record;
 mod types;
 
 pub use data_frame::data_step;
-pub use record::{begin, failed, holds, lent, refused};
-pub use types::{DataDisposition, Receiver, Stepped};
+pub use record::{begin, failed, holds, lent};
+pub use types::{DataDisposition, Receiver};

@@ -1,11 +1,11 @@
 // The record: the tests of number 1, how a burst begins, refusal and failure.
 ghost use Rattle.std.specs.Prelude.{◌≡◌};
-ghost use Rattle.status.specs.Number.{refusal_number, failure_number};
-ghost use Rattle.status.specs.Answer.{Said, ◌saying◌};
-ghost use Rattle.receiver_steps.specs.Record.{holds_of, right_length, lent_of, beginning, stepped, failed_of};
+ghost use Rattle.status.specs.Stepped.{stepped};
+ghost use Rattle.status.specs.Number.{failure_number};
+ghost use Rattle.receiver_steps.specs.Record.{holds_of, right_length, lent_of, beginning, failed_of};
 
-use crate::types::{Receiver, Stepped};
-use status::{Answer, Failure, Refusal};
+use crate::types::Receiver;
+use status::{Answer, Failure, Refusal, Stepped};
 use transfer::Transfer;
 
 // Number 1 does not apply: limits and marks are in order.
@@ -56,23 +56,13 @@ pub fn begin(t: Transfer, base: u32, end: u32) -> Receiver
     }
 }
 
-// A refusal leaves the record as it was.
-pub fn refused(r: Receiver, why: Refusal) -> Stepped
-    ensures { stepped result ≡ (r saying Said.refused (refusal_number why)) }
-{
-    Stepped {
-        receiver: r,
-        answer: Answer::Refused(why),
-    }
-}
-
 // A failure ends the port.
-pub fn failed(mut r: Receiver, why: Failure) -> Stepped
+pub fn failed(mut r: Receiver, why: Failure) -> Stepped<Receiver>
     ensures { stepped result ≡ failed_of r (failure_number why) }
 {
     r.ended = true;
     Stepped {
-        receiver: r,
+        left: r,
         answer: Answer::Failed(why, 0),
     }
 }

@@ -1,5 +1,5 @@
 // The receiving port's record, and what a step leaves.
-use status::{Answer, Failure};
+use status::{Answer, Failure, Stepped};
 use transfer::Transfer;
 
 #[repr(C)]
@@ -17,20 +17,12 @@ pub struct Receiver {
     pub ended: bool,
 }
 
-// What a step or an event leaves and answers. A refusal leaves the record as it was.
-#[derive(Clone, Copy)]
-pub struct Stepped {
-    pub receiver: Receiver,
-    pub answer: Answer,
-}
-
-// What is done with a DATA frame.
+// What is done with a DATA frame that is no failure.
 #[derive(Clone, Copy)]
 pub enum DataDisposition {
     // the burst is filled: discarded, and nothing changes
     Discard,
     // discarded, and waiting for CHANGING DATA POINTER starts
     Skip,
-    Fail(Failure),
     Store,
 }

@@ -8,9 +8,6 @@ use Rattle.transfer.specs.Limits.{limits_hold}
 use Rattle.transfer.specs.declared.Transfer.{Transfer}
 use Rattle.response.specs.Fields.{unanswered≔, ended≔}
 use Rattle.response.specs.declared.types.Responder.{Responder}
-use Rattle.response.specs.declared.types.Stepped.{Stepped}
-use Rattle.response.specs.declared.types.Setup.{Setup}
-use Rattle.response.specs.declared.types.Setup.TheVariants.{Ready, Refused}
 
 -- "resent likewise, up to the limit, and once even with retries off"
 abbrev pub most_of : Responder → ℕ
@@ -35,12 +32,3 @@ set_up_tests t len = limits_hold t ∷ leb 24 len ∷ leb len 1_024 ∷ []
 
 abbrev pub set_up_of : Transfer → ℕ → Result Responder
 set_up_of t len = granted (all (set_up_tests t len)) (start_of t len)
-
--- what the set_up answers: the record, or a number
-abbrev pub made : Setup → Result Responder
-made (Ready x) = Result.value x
-made (Refused why) = Result.number (refusal_number why)
-
--- what an event leaves and answers
-abbrev pub stepped : Stepped → Left Responder
-stepped y = y.responder saying says y.answer

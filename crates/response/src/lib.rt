@@ -9,4 +9,4 @@ mod types;
 pub use confirmation::{ack_nak_timeout, ack_received, connection_lost, nak_received, nexus_lost};
 pub use record::set_up;
 pub use transmit::next_frame;
-pub use types::{Responder, Setup, Stepped};
+pub use types::Responder;

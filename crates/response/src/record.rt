@@ -1,11 +1,10 @@
 // The record: its set-up, and the tests of number 1.
 ghost use Rattle.std.specs.Prelude.{◌≡◌};
-ghost use Rattle.status.specs.Number.{refusal_number};
-ghost use Rattle.status.specs.Answer.{Said, ◌saying◌};
-ghost use Rattle.response.specs.Record.{most_of, holds_of, ended_of, made, set_up_of, stepped};
+ghost use Rattle.status.specs.Result.{or_refusal};
+ghost use Rattle.response.specs.Record.{most_of, holds_of, ended_of, set_up_of};
 
-use crate::types::{Responder, Setup, Stepped};
-use status::{Answer, Refusal};
+use crate::types::Responder;
+use status::{Answer, Refusal, Stepped};
 use transfer::Transfer;
 
 // Resent up to the limit, and once even with retries off.
@@ -26,15 +25,6 @@ pub(crate) fn holds(x: Responder) -> bool
     limits & (24 <= x.len) & (x.len <= 1024) & (x.retries <= most)
 }
 
-pub(crate) fn refused(x: Responder, why: Refusal) -> Stepped
-    ensures { stepped result ≡ (x saying Said.refused (refusal_number why)) }
-{
-    Stepped {
-        responder: x,
-        answer: Answer::Refused(why),
-    }
-}
-
 // The record has ended: nothing is unanswered.
 pub(crate) fn ended(mut x: Responder) -> Responder
     ensures { result ≡ ended_of x }
@@ -45,12 +35,12 @@ pub(crate) fn ended(mut x: Responder) -> Responder
 }
 
 // 1 (also for an IU of other than 24 to 1,024 bytes), else the record.
-pub fn set_up(t: Transfer, len: u32) -> Setup
-    ensures { made result ≡ set_up_of t len }
+pub fn set_up(t: Transfer, len: u32) -> Result<Responder, Refusal>
+    ensures { or_refusal result ≡ set_up_of t len }
 {
     let limits = t.limits_hold();
     if limits & (24 <= len) & (len <= 1024) {
-        Setup::Ready(Responder {
+        Ok(Responder {
             transfer: t,
             len: len,
             unanswered: false,
@@ -58,6 +48,6 @@ pub fn set_up(t: Transfer, len: u32) -> Setup
             ended: false,
         })
     } else {
-        Setup::Refused(Refusal::BadRequest)
+        Err(Refusal::BadRequest)
     }
 }

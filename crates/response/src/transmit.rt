@@ -1,13 +1,13 @@
 // The RESPONSE asked for.
 ghost use Rattle.std.specs.Prelude.{◌≡◌, true, length};
+ghost use Rattle.status.specs.Stepped.{stepped};
 ghost use Rattle.frame.specs.Write.{handing};
-ghost use Rattle.response.specs.Record.{stepped};
 ghost use Rattle.response.specs.Transmit.{lent_of, response_header, frame_of, hands_of, next_of, sent_of};
 
 use crate::record;
-use crate::types::{Responder, Stepped};
-use frame::{Flags, Header, Written};
-use status::{Answer, Entry};
+use crate::types::Responder;
+use frame::{Flags, Header};
+use status::{Answer, Stepped};
 
 // Number 1 does not apply, the IU's length included.
 fn lent(x: Responder, n: usize) -> bool
@@ -47,33 +47,27 @@ fn sent(mut x: Responder) -> Responder
 }
 
 // The RESPONSE is due: it goes out, or the output buffer is too short.
-fn transmit(x: Responder, iu: &[u8], out: &mut [u8]) -> Stepped
+fn transmit(x: Responder, iu: &[u8], out: &mut [u8]) -> Stepped<Responder>
     requires { lent_of x (length iu.now) ≡ true }
     ensures { (stepped result ≡ hands_of x iu.now out.old) × (out.new ≡ handing (hands_of x iu.now out.old).says (frame_of x iu.now) out.old) }
 {
     let written = frame::write(header(x), iu, out);
     match written {
-        Written::Frame(length) => Stepped {
-            responder: sent(x),
-            answer: Answer::Frame(length),
-        },
-        Written::Refused(why) => record::refused(x, why),
+        Ok(length) => Stepped { left: sent(x), answer: Answer::Frame(length) },
+        Err(why) => Stepped::refused(x, why),
     }
 }
 
 // 1 (also for an IU of another length than at set-up), 2; wait; 3, else a RESPONSE of that length.
-pub fn next_frame(x: Responder, iu: &[u8], out: &mut [u8]) -> Stepped
+pub fn next_frame(x: Responder, iu: &[u8], out: &mut [u8]) -> Stepped<Responder>
     ensures { (stepped result ≡ next_of x iu.now out.old) × (out.new ≡ handing (next_of x iu.now out.old).says (frame_of x iu.now) out.old) }
 {
     let ok = lent(x, iu.len());
     match status::admit(ok, x.ended) {
-        Entry::Closed(why) => record::refused(x, why),
-        Entry::Open => {
+        Err(why) => Stepped::refused(x, why),
+        Ok(()) => {
             if x.unanswered {
-                Stepped {
-                    responder: x,
-                    answer: Answer::Wait,
-                }
+                Stepped { left: x, answer: Answer::Wait }
             } else {
                 transmit(x, iu, out)
             }

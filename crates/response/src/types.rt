@@ -1,5 +1,5 @@
 // The RESPONSE's record, and what its events leave.
-use status::{Answer, Refusal};
+use status::{Answer, Refusal, Stepped};
 use transfer::Transfer;
 
 #[repr(C)]
@@ -12,17 +12,4 @@ pub struct Responder {
     // its confirmation is due
     pub unanswered: bool,
     pub ended: bool,
-}
-
-// What an event leaves and answers. A refusal leaves the record as it was.
-#[derive(Clone, Copy)]
-pub struct Stepped {
-    pub responder: Responder,
-    pub answer: Answer,
-}
-
-#[derive(Clone, Copy)]
-pub enum Setup {
-    Ready(Responder),
-    Refused(Refusal),
 }

@@ -8,8 +8,6 @@ use Rattle.transfer.specs.declared.Transfer.{Transfer}
 use Rattle.sender_steps.specs.Record.{beginning}
 use Rattle.sender_steps.specs.declared.types.Burst.{Burst}
 use Rattle.sender_steps.specs.declared.types.Sender.{Sender}
-use Rattle.sender.specs.declared.types.ReadSetup.{ReadSetup}
-use Rattle.sender.specs.declared.types.ReadSetup.TheVariants.{Ready, Refused}
 
 -- "a read is one burst from 0"; request K5: from its start instead, up to start plus count
 abbrev pub whole : Transfer → Burst
@@ -20,8 +18,3 @@ set_up_tests t = limits_hold t ∷ not t.write ∷ []
 
 abbrev pub set_up_read_of : Transfer → Result Sender
 set_up_read_of t = granted (all (set_up_tests t)) (beginning t (whole t))
-
--- what the set_up answers: the record, or a number
-abbrev pub made : ReadSetup → Result Sender
-made (Ready s) = Result.value s
-made (Refused why) = Result.number (refusal_number why)

@@ -4,10 +4,8 @@
 mod confirmation;
 mod record;
 mod transmit;
-mod types;
 
 pub use confirmation::{ack_nak_timeout, ack_received, connection_lost, nak_received, nexus_lost};
 pub use record::set_up_read;
-pub use sender_steps::{Burst, Sender, Stepped};
+pub use sender_steps::{Burst, Sender};
 pub use transmit::next_frame;
-pub use types::ReadSetup;

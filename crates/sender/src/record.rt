@@ -1,15 +1,15 @@
 // The set-up for a read.
 ghost use Rattle.std.specs.Prelude.{◌≡◌};
-ghost use Rattle.sender.specs.Record.{made, set_up_read_of};
+ghost use Rattle.status.specs.Result.{or_refusal};
+ghost use Rattle.sender.specs.Record.{set_up_read_of};
 
-use crate::types::ReadSetup;
-use sender_steps::Burst;
+use sender_steps::{Burst, Sender};
 use status::Refusal;
 use transfer::Transfer;
 
 // The target's sending end of a read: 1, else the record.
-pub fn set_up_read(t: Transfer) -> ReadSetup
-    ensures { made result ≡ set_up_read_of t }
+pub fn set_up_read(t: Transfer) -> Result<Sender, Refusal>
+    ensures { or_refusal result ≡ set_up_read_of t }
 {
     let limits = t.limits_hold();
     if limits & !t.write {
@@ -20,8 +20,8 @@ pub fn set_up_read(t: Transfer) -> ReadSetup
             tptt: 0,
             limit: t.limit,
         };
-        ReadSetup::Ready(sender_steps::begin(t, b))
+        Ok(sender_steps::begin(t, b))
     } else {
-        ReadSetup::Refused(Refusal::BadRequest)
+        Err(Refusal::BadRequest)
     }
 }

@@ -6,7 +6,6 @@ use Rattle.transfer.specs.Limits.{past, limits_hold}
 use Rattle.transfer.specs.declared.Transfer.{Transfer}
 use Rattle.sender_steps.specs.declared.types.Burst.{Burst}
 use Rattle.sender_steps.specs.declared.types.Sender.{Sender}
-use Rattle.sender_steps.specs.declared.types.Stepped.{Stepped}
 
 -- 1: "a limit is broken, .. a record has marks outside base to end, balance point above next offset, .. a frame count of 2 to the power 60
 -- or more, or another count past its limit". Request K5: a read's offsets "begin there", at the start, so its burst lies from start to start plus count;
@@ -45,7 +44,3 @@ beginning t b =
       frames = 0;
       ended = false;
     }
-
--- what a step or an event leaves and answers
-abbrev pub stepped : Stepped → Left Sender
-stepped x = x.sender saying says x.answer

@@ -1,17 +1,17 @@
 // ACK, NAK, timeout, cut and nexus loss, once the event's own numbers are tested.
 ghost use Rattle.std.specs.Prelude.{◌≡◌, ◌-◌};
+ghost use Rattle.status.specs.Stepped.{stepped};
 ghost use Rattle.status.specs.Number.{failure_number};
-ghost use Rattle.sender_steps.specs.Record.{stepped};
 ghost use Rattle.sender_steps.specs.Confirmation.{lowered_of, failed_of, restart_of, retry_of, moved_of, advance_of, settle_of, cause_of, ack_step_of, nak_step_of, retry_step_of};
 
-use crate::types::{Sender, Stepped};
-use status::{Answer, Failure};
+use crate::types::Sender;
+use status::{Answer, Failure, Stepped};
 
 // One confirmation less to come; none stays none.
 pub fn less_one(n: u32) -> u32
     ensures { result ≡ n - 1 }
 {
-    if n == 0 { 0 } else { n - 1 }
+    n.saturating_sub(1)
 }
 
 // One confirmation less to come, a NAK pending or not.
@@ -25,14 +25,14 @@ fn lowered(mut s: Sender, nak: bool) -> Sender
 }
 
 // A failure ends the port.
-pub fn failed(mut s: Sender, cause: Failure) -> Stepped
+pub fn failed(mut s: Sender, cause: Failure) -> Stepped<Sender>
     ensures { stepped result ≡ failed_of s (failure_number cause) }
 {
     s.unanswered = 0;
     s.nak = false;
     s.ended = true;
     Stepped {
-        sender: s,
+        left: s,
         answer: Answer::Failed(cause, s.frames),
     }
 }
@@ -46,7 +46,7 @@ fn restart(s: Sender) -> u32
     if t.write { b.base } else { s.balance }
 }
 
-fn retry(mut s: Sender, cause: Failure) -> Stepped
+fn retry(mut s: Sender, cause: Failure) -> Stepped<Sender>
     ensures { stepped result ≡ retry_of s (failure_number cause) }
 {
     let b = s.burst;
@@ -59,7 +59,7 @@ fn retry(mut s: Sender, cause: Failure) -> Stepped
         s.unanswered = 0;
         s.nak = false;
         Stepped {
-            sender: s,
+            left: s,
             answer: Answer::Retry,
         }
     } else {
@@ -81,7 +81,7 @@ fn moved(mut s: Sender) -> Sender
 }
 
 // Nothing is unanswered and no NAK pending.
-fn advance(s: Sender) -> Stepped
+fn advance(s: Sender) -> Stepped<Sender>
     ensures { stepped result ≡ advance_of s }
 {
     let mut m = moved(s);
@@ -90,23 +90,23 @@ fn advance(s: Sender) -> Stepped
         let t = s.transfer;
         m.ended = !t.write;
         return Stepped {
-            sender: m,
+            left: m,
             answer: Answer::Delivered(s.frames),
         };
     }
     Stepped {
-        sender: m,
+        left: m,
         answer: Answer::Taken,
     }
 }
 
 // What ACK or NAK leave, once the count is lowered.
-fn settle(s: Sender) -> Stepped
+fn settle(s: Sender) -> Stepped<Sender>
     ensures { stepped result ≡ settle_of s }
 {
     if s.unanswered != 0 {
         return Stepped {
-            sender: s,
+            left: s,
             answer: Answer::Taken,
         };
     }
@@ -124,21 +124,21 @@ fn cause(s: Sender, event: Failure) -> Failure
 }
 
 // An ACK: taken, delivered, retry, or 28 (a NAK is pending).
-pub fn ack_step(s: Sender) -> Stepped
+pub fn ack_step(s: Sender) -> Stepped<Sender>
     ensures { stepped result ≡ ack_step_of s }
 {
     settle(lowered(s, s.nak))
 }
 
 // A NAK: taken, retry, or 28.
-pub fn nak_step(s: Sender) -> Stepped
+pub fn nak_step(s: Sender) -> Stepped<Sender>
     ensures { stepped result ≡ nak_step_of s }
 {
     settle(lowered(s, true))
 }
 
 // A timeout or cut with frames unanswered: retry, 28 (a NAK is pending) or the event's own number.
-pub fn retry_step(s: Sender, event: Failure) -> Stepped
+pub fn retry_step(s: Sender, event: Failure) -> Stepped<Sender>
     ensures { stepped result ≡ retry_step_of s (failure_number event) }
 {
     let failure = cause(s, event);

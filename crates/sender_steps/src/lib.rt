@@ -7,6 +7,6 @@ mod transmit;
 mod types;
 
 pub use confirmation::{ack_step, failed, less_one, nak_step, retry_step};
-pub use record::{begin, holds, lent, refused};
+pub use record::{begin, holds, lent};
 pub use transmit::{frame_step, header};
-pub use types::{Burst, Sender, Stepped};
+pub use types::{Burst, Sender};

@@ -1,11 +1,9 @@
 // The record: the tests of number 1, how a burst begins, and the refusal.
 ghost use Rattle.std.specs.Prelude.{◌≡◌};
-ghost use Rattle.status.specs.Number.{refusal_number};
-ghost use Rattle.status.specs.Answer.{Said, ◌saying◌};
-ghost use Rattle.sender_steps.specs.Record.{holds_of, lent_of, beginning, stepped};
+ghost use Rattle.sender_steps.specs.Record.{holds_of, lent_of, beginning};
 
-use crate::types::{Burst, Sender, Stepped};
-use status::{Answer, Refusal};
+use crate::types::{Burst, Sender};
+use status::{Answer, Refusal, Stepped};
 use transfer::Transfer;
 
 // Number 1 does not apply: limits, marks and counts are in order.
@@ -35,16 +33,6 @@ pub fn lent(s: Sender, n: usize) -> bool
     let holds = holds(s);
     let count = s.transfer.count as usize;
     holds & (n == count)
-}
-
-// A refusal leaves the record as it was.
-pub fn refused(s: Sender, why: Refusal) -> Stepped
-    ensures { stepped result ≡ (s saying Said.refused (refusal_number why)) }
-{
-    Stepped {
-        sender: s,
-        answer: Answer::Refused(why),
-    }
 }
 
 // A burst of which nothing is handed out yet; whether it is in order is tested at the first call.

@@ -1,13 +1,13 @@
 // A frame asked for, once 1 and 2 are tested.
 ghost use Rattle.std.specs.Prelude.{◌≡◌, true, false, length, ◌+◌, ◌^◌, ◌≤◌, ◌<◌};
+ghost use Rattle.status.specs.Stepped.{stepped};
 ghost use Rattle.frame.specs.Write.{handing};
-ghost use Rattle.sender_steps.specs.Record.{stepped};
 ghost use Rattle.sender_steps.specs.Transmit.{waits_of, lesser, data_header, frame_of, sent_of, fits_of, writes_of, frame_step_of};
 
 use crate::record;
-use crate::types::{Sender, Stepped};
-use frame::{Flags, Header, Written};
-use status::{Answer, Refusal};
+use crate::types::Sender;
+use frame::{Flags, Header};
+use status::{Answer, Refusal, Stepped};
 
 fn waits(s: Sender) -> bool
     ensures { result ≡ waits_of s }
@@ -22,10 +22,7 @@ fn data_length(s: Sender) -> u32
     requires { s.next ≤ s.burst.end }
     ensures { result ≡ lesser s }
 {
-    let t = s.transfer;
-    let b = s.burst;
-    let left = b.end - s.next;
-    if t.size <= left { t.size } else { left }
+    s.transfer.size.min(s.burst.end - s.next)
 }
 
 // A write burst's transfer tag; read DATA has the transfer's value.
@@ -72,7 +69,7 @@ fn sent(mut s: Sender, n: u32) -> Sender
 }
 
 // A frame is due: it goes out, or the writer refuses it. s changes in place, which saves a copy of the record (docs/SPEED.md).
-fn transmit(mut s: Sender, buffer: &[u8], out: &mut [u8]) -> Stepped
+fn transmit(mut s: Sender, buffer: &[u8], out: &mut [u8]) -> Stepped<Sender>
     requires { (fits_of s (length buffer.now) ≡ true) × (waits_of s ≡ false) }
     ensures { (stepped result ≡ writes_of s buffer.now out.old) × (out.new ≡ handing (writes_of s buffer.now out.old).says (frame_of s buffer.now) out.old) }
 {
@@ -82,14 +79,14 @@ fn transmit(mut s: Sender, buffer: &[u8], out: &mut [u8]) -> Stepped
     let to = from + (n as usize);
     let written = frame::write(header(s), &buffer[from..to], out);
     match written {
-        Written::Frame(length) => {
+        Ok(length) => {
             s = sent(s, n);
             Stepped {
-                sender: s,
+                left: s,
                 answer: Answer::Frame(length),
             }
         }
-        Written::Refused(why) => record::refused(s, why),
+        Err(why) => Stepped::refused(s, why),
     }
 }
 
@@ -107,15 +104,15 @@ fn fits(s: Sender, n: usize) -> bool
 
 // A frame asked for: 1 where next offset, burst or frame count do not fit; wait; the writer's 1 or 3, else a frame of that length.
 // One exit: with early returns the compiler does not build the step into its callers (docs/SPEED.md).
-pub fn frame_step(s: Sender, buffer: &[u8], out: &mut [u8]) -> Stepped
+pub fn frame_step(s: Sender, buffer: &[u8], out: &mut [u8]) -> Stepped<Sender>
     ensures { (stepped result ≡ frame_step_of s buffer.now out.old) × (out.new ≡ handing (frame_step_of s buffer.now out.old).says (frame_of s buffer.now) out.old) }
 {
     if !fits(s, buffer.len()) {
-        record::refused(s, Refusal::BadRequest)
+        Stepped::refused(s, Refusal::BadRequest)
     } else {
         if waits(s) {
             Stepped {
-                sender: s,
+                left: s,
                 answer: Answer::Wait,
             }
         } else {

@@ -1,5 +1,5 @@
 // A burst, the sending port's record, and what a step leaves.
-use status::Answer;
+use status::{Answer, Stepped};
 use transfer::Transfer;
 
 // What one XFER_RDY asks for, or a whole read.
@@ -32,11 +32,4 @@ pub struct Sender {
     pub retries: u32,
     // frames handed out since set-up, or since the write burst began
     pub frames: u64,
-}
-
-// What a step or an event leaves and answers. A refusal leaves the record as it was.
-#[derive(Clone, Copy)]
-pub struct Stepped {
-    pub sender: Sender,
-    pub answer: Answer,
 }

@@ -27,7 +27,6 @@ use Rattle.receiver_steps.specs.Fields.{expected≔, filled≔, waiting≔}
 use Rattle.receiver_steps.specs.Record.{lent_of}
 use Rattle.receiver_steps.specs.DataFrame as step
 use Rattle.receiver_steps.specs.declared.types.Receiver.{Receiver}
-use Rattle.receiver_steps.specs.declared.types.DataDisposition.{DataDisposition}
 use Rattle.receiver_steps.proofs.Held as marks
 use Rattle.receiver_steps.proofs.Judged.{Judged, Misplaced, full, misplaced, long, empty, skipped, stored, under, beyond, unexpected, ahead, judged}
 use Rattle.receiver.specs.DataFrame.{arrival_of}
@@ -37,6 +36,7 @@ use Rattle.ssp.specs.CAnswer.{Leaves, c_answer_of, RECEIVED, STORED, word}
 use Rattle.ssp.specs.ShortReceive.{Fits, Next, past_of, stored_told, grown_of, ReadNext}
 use Rattle.ssp.specs.declared.types.CAnswer.{CAnswer}
 use Rattle.ssp.proofs.Cases.{no}
+use Rattle.receiver_steps.specs.DataFrame.{Disposition}
 
 -- the answer of a frame that is stored
 abbrev pub stored_said : Receiver → ℕ → Said
@@ -92,7 +92,7 @@ is_stored r f m l o fit q = rw (open_entry _ _ l o) (go _ (judged r r.expected f
     astray (unexpected x y) = absurd (y refl)
     astray (ahead x y z) = no y
 
-    go : (d : DataDisposition) → Judged r r.expected false (length f - 24) d → step.taken_of d r r.expected (length f - 24) ≡ (grown_of r (length f) saying stored_said r (length f))
+    go : (d : Disposition) → Judged r r.expected false (length f - 24) d → step.taken_of d r r.expected (length f - 24) ≡ (grown_of r (length f) saying stored_said r (length f))
     go _ (full e) = absurd (gone e)
     go _ (misplaced e x) = astray x
     go _ (long x y) = absurd (omega (arith, fit, n, y))

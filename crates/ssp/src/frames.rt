@@ -2,14 +2,14 @@
 ghost use Rattle.std.specs.Prelude.{◌≡◌, ◌≤◌, length};
 ghost use Rattle.frame.specs.Format.{encode};
 ghost use Rattle.frame.specs.Read.{decode};
-ghost use Rattle.frame.specs.Write.{put, over, written, write_answer};
+ghost use Rattle.frame.specs.Write.{put, over, write_answer};
 ghost use Rattle.frame.specs.TwoSteps.{put_data, put_header};
 ghost use Rattle.frame.specs.XferRdy.{xfer_rdy_bytes, xfer_rdy_of};
 ghost use Rattle.ssp.specs.Frames.{framed, flat, asked, plain, written_answer, xfer_rdy_answer, ReadsHeader, ReadsXferRdy};
 
 use crate::answer;
 use crate::types::{CAnswer, Header, HeaderReturn, XferRdy, XferRdyReturn};
-use frame::{Decoded, Flags, Written, XferRdyIu};
+use frame::Flags;
 use status::{Answer, Refusal};
 
 fn framed(h: Header) -> frame::Header
@@ -72,8 +72,8 @@ fn wrote(w: Written) -> CAnswer
     ensures { result ≡ written_answer (written w) }
 {
     match w {
-        Written::Frame(len) => answer::answer_with(0, CAnswer::FRAME, 0, 0, len),
-        Written::Refused(why) => answer::c_answer(Answer::Refused(why)),
+        Ok(len) => answer::answer_with(0, CAnswer::FRAME, 0, 0, len),
+        Err(why) => answer::c_answer(Answer::Refused(why)),
     }
 }
 
@@ -108,14 +108,14 @@ fn read_header(h: Header, bytes: &[u8]) -> HeaderReturn
     ensures { ReadsHeader (decode bytes.now) h result.left result.answer }
 {
     match frame::read(bytes) {
-        Decoded::Frame(p) => {
+        Ok(p) => {
             let g = p.header;
             HeaderReturn {
                 left: flat(g),
                 answer: answer::answer_with(0, CAnswer::PARSED, 0, p.start, p.len),
             }
         }
-        Decoded::Refused(why) => HeaderReturn {
+        Err(why) => HeaderReturn {
             left: h,
             answer: answer::c_answer(Answer::Refused(why)),
         },
@@ -156,11 +156,11 @@ fn read_xfer_rdy(x: XferRdy, iu: &[u8]) -> XferRdyReturn
     ensures { ReadsXferRdy (xfer_rdy_of iu.now) x result.left result.answer }
 {
     match frame::read_xfer_rdy(iu) {
-        XferRdyIu::Taken(y) => XferRdyReturn {
+        Ok(y) => XferRdyReturn {
             left: plain(y),
             answer: answer::answer_with(0, CAnswer::PARSED, 0, 0, 12),
         },
-        XferRdyIu::Failed(why) => XferRdyReturn {
+        Err(why) => XferRdyReturn {
             left: x,
             answer: answer::c_answer(Answer::Failed(why, 0)),
         },

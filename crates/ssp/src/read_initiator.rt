@@ -1,8 +1,8 @@
 // A read at the initiator: its receiving record in place.
 ghost use Rattle.std.specs.Prelude.{◌≡◌, length};
+ghost use Rattle.status.specs.Stepped.{stepped};
 ghost use Rattle.frame.specs.Read.{header_in, iu_of};
 ghost use Rattle.receiver_steps.specs.DataFrame.{storing};
-ghost use Rattle.receiver_steps.specs.Record.{stepped};
 ghost use Rattle.receiver.specs.Record.{set_up_read_of};
 ghost use Rattle.initiator.specs.Read.{read_loss_of, read_arrival_of};
 ghost use Rattle.ssp.specs.CAnswer.{Leaves, SetsUp};
@@ -10,10 +10,10 @@ ghost use Rattle.ssp.specs.CAnswer.{Leaves, SetsUp};
 use crate::types::{CAnswer, ReadInitiatorReturn};
 use crate::{answer, short_read_initiator};
 use initiator::Receiver;
-use status::Answer;
+use status::{Answer, Stepped};
 use transfer::Transfer;
 
-fn returned(y: initiator::ReadStepped) -> ReadInitiatorReturn
+fn returned(y: Stepped<Receiver>) -> ReadInitiatorReturn
     ensures { Leaves (stepped y) result.left result.answer }
 {
     let left = y.receiver;
@@ -28,11 +28,11 @@ fn set_up(s: Receiver, t: Transfer) -> ReadInitiatorReturn
     ensures { SetsUp (set_up_read_of t) s result.left result.answer }
 {
     match initiator::set_up_read(t) {
-        initiator::ReadSetup::Ready(x) => ReadInitiatorReturn {
+        Ok(x) => ReadInitiatorReturn {
             left: x,
             answer: answer::ready(),
         },
-        initiator::ReadSetup::Refused(why) => ReadInitiatorReturn {
+        Err(why) => ReadInitiatorReturn {
             left: s,
             answer: answer::c_answer(Answer::Refused(why)),
         },

@@ -1,7 +1,7 @@
 // A read at the target: its sending record in place.
 ghost use Rattle.std.specs.Prelude.{◌≡◌};
+ghost use Rattle.status.specs.Stepped.{stepped};
 ghost use Rattle.frame.specs.Write.{handing};
-ghost use Rattle.sender_steps.specs.Record.{stepped};
 ghost use Rattle.sender.specs.Record.{set_up_read_of};
 ghost use Rattle.target.specs.ReadSend.{read_ack_of, read_nak_of, read_timeout_of, read_cut_of, read_loss_of, read_next_of};
 ghost use Rattle.sender_steps.specs.Transmit.{frame_of};
@@ -10,11 +10,11 @@ ghost use Rattle.ssp.specs.CAnswer.{Leaves, SetsUp};
 
 use crate::types::{CAnswer, ReadTargetReturn};
 use crate::{answer, short_read_target};
-use status::Answer;
+use status::{Answer, Stepped};
 use target::Sender;
 use transfer::Transfer;
 
-fn returned(y: target::ReadStepped) -> ReadTargetReturn
+fn returned(y: Stepped<Sender>) -> ReadTargetReturn
     ensures { Leaves (stepped y) result.left result.answer }
 {
     let left = y.sender;
@@ -29,11 +29,11 @@ fn set_up(s: Sender, t: Transfer) -> ReadTargetReturn
     ensures { SetsUp (set_up_read_of t) s result.left result.answer }
 {
     match target::set_up_read(t) {
-        target::ReadSetup::Ready(x) => ReadTargetReturn {
+        Ok(x) => ReadTargetReturn {
             left: x,
             answer: answer::ready(),
         },
-        target::ReadSetup::Refused(why) => ReadTargetReturn {
+        Err(why) => ReadTargetReturn {
             left: s,
             answer: answer::c_answer(Answer::Refused(why)),
         },

@@ -1,7 +1,8 @@
 // RESPONSE at the target: its record in place.
 ghost use Rattle.std.specs.Prelude.{◌≡◌};
+ghost use Rattle.status.specs.Stepped.{stepped};
 ghost use Rattle.frame.specs.Write.{handing};
-ghost use Rattle.response.specs.Record.{stepped, set_up_of};
+ghost use Rattle.response.specs.Record.{set_up_of};
 ghost use Rattle.response.specs.Confirmation.{ack_of, nak_of, timeout_of, cut_of, loss_of};
 ghost use Rattle.response.specs.Transmit.{frame_of, next_of};
 ghost use Rattle.ssp.specs.CAnswer.{Leaves, SetsUp};
@@ -9,10 +10,10 @@ ghost use Rattle.ssp.specs.CAnswer.{Leaves, SetsUp};
 use crate::answer;
 use crate::types::{CAnswer, ResponseReturn};
 use response::Responder;
-use status::{Answer, Refusal};
+use status::{Answer, Refusal, Stepped};
 use transfer::Transfer;
 
-fn returned(y: response::Stepped) -> ResponseReturn
+fn returned(y: Stepped<Responder>) -> ResponseReturn
     ensures { Leaves (stepped y) result.left result.answer }
 {
     let left = y.responder;
@@ -33,11 +34,11 @@ fn set_up(s: Responder, t: Transfer, len: usize) -> ResponseReturn
         };
     }
     match response::set_up(t, len as u32) {
-        response::Setup::Ready(x) => ResponseReturn {
+        Ok(x) => ResponseReturn {
             left: x,
             answer: answer::ready(),
         },
-        response::Setup::Refused(why) => ResponseReturn {
+        Err(why) => ResponseReturn {
             left: s,
             answer: answer::c_answer(Answer::Refused(why)),
         },

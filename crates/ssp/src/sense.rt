@@ -6,7 +6,6 @@ ghost use Rattle.ssp.specs.Sense.{response_answer, opened_in, sense_answered};
 
 use crate::answer;
 use crate::types::CAnswer;
-use frame::ResponseIu;
 use status::{Answer, Opened, Part};
 
 // An IU of any length: 32, 34, else kind, status and bytes of sense data.
@@ -15,7 +14,7 @@ pub extern "C" fn ssp_response_iu_read(iu: &[u8]) -> CAnswer
     ensures { result ≡ response_answer (response_iu_of iu.now) (length iu.now) }
 {
     match frame::read_response(iu) {
-        ResponseIu::Taken(o) => answer::answer_opened(
+        Ok(o) => answer::answer_opened(
             CAnswer::PARSED,
             0,
             Part {
@@ -24,7 +23,7 @@ pub extern "C" fn ssp_response_iu_read(iu: &[u8]) -> CAnswer
             },
             o,
         ),
-        ResponseIu::Failed(why) => answer::c_answer(Answer::Failed(why, 0)),
+        Err(why) => answer::c_answer(Answer::Failed(why, 0)),
     }
 }
 

@@ -1,7 +1,8 @@
 // A write at the initiator: its record in place.
 ghost use Rattle.std.specs.Prelude.{◌≡◌};
+ghost use Rattle.status.specs.Stepped.{stepped};
 ghost use Rattle.frame.specs.Write.{handing};
-ghost use Rattle.initiator.specs.WriteRecord.{stepped, set_up_write_of};
+ghost use Rattle.initiator.specs.WriteRecord.{set_up_write_of};
 ghost use Rattle.initiator.specs.WriteSend.{ack_of, nak_of, timeout_of, cut_of, loss_of, begun_of, next_of};
 ghost use Rattle.sender_steps.specs.Transmit.{frame_of};
 ghost use Rattle.initiator.specs.WriteTake.{write_arrival_of};
@@ -10,10 +11,10 @@ ghost use Rattle.ssp.specs.CAnswer.{Leaves, SetsUp};
 use crate::types::{CAnswer, WriteInitiatorReturn};
 use crate::{answer, short_write_initiator};
 use initiator::Writer;
-use status::Answer;
+use status::{Answer, Stepped};
 use transfer::Transfer;
 
-fn returned(y: initiator::WriteStepped) -> WriteInitiatorReturn
+fn returned(y: Stepped<Writer>) -> WriteInitiatorReturn
     ensures { Leaves (stepped y) result.left result.answer }
 {
     let left = y.writer;
@@ -28,11 +29,11 @@ fn set_up(s: Writer, t: Transfer) -> WriteInitiatorReturn
     ensures { SetsUp (set_up_write_of t) s result.left result.answer }
 {
     match initiator::set_up_write(t) {
-        initiator::WriteSetup::Ready(x) => WriteInitiatorReturn {
+        Ok(x) => WriteInitiatorReturn {
             left: x,
             answer: answer::ready(),
         },
-        initiator::WriteSetup::Refused(why) => WriteInitiatorReturn {
+        Err(why) => WriteInitiatorReturn {
             left: s,
             answer: answer::c_answer(Answer::Refused(why)),
         },

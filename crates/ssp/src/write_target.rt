@@ -1,9 +1,10 @@
 // A write at the target: its record in place.
 ghost use Rattle.std.specs.Prelude.{◌≡◌, length};
+ghost use Rattle.status.specs.Stepped.{stepped};
 ghost use Rattle.frame.specs.Read.{header_in, iu_of};
 ghost use Rattle.receiver_steps.specs.DataFrame.{storing};
 ghost use Rattle.frame.specs.Write.{handing};
-ghost use Rattle.target.specs.Record.{stepped, set_up_write_of};
+ghost use Rattle.target.specs.Record.{set_up_write_of};
 ghost use Rattle.target.specs.Confirmation.{ack_of, nak_of, timeout_of, cut_of, loss_of};
 ghost use Rattle.target.specs.Transmit.{frame_of, next_of};
 ghost use Rattle.target.specs.Arrival.{write_arrival_of};
@@ -12,11 +13,11 @@ ghost use Rattle.ssp.specs.CAnswer.{Leaves, SetsUp};
 
 use crate::types::{CAnswer, WriteTargetReturn};
 use crate::{answer, short_write_target};
-use status::Answer;
+use status::{Answer, Stepped};
 use target::Target;
 use transfer::Transfer;
 
-fn returned(y: target::WriteStepped) -> WriteTargetReturn
+fn returned(y: Stepped<Target>) -> WriteTargetReturn
     ensures { Leaves (stepped y) result.left result.answer }
 {
     let left = y.target;
@@ -31,11 +32,11 @@ fn set_up(s: Target, t: Transfer) -> WriteTargetReturn
     ensures { SetsUp (set_up_write_of t) s result.left result.answer }
 {
     match target::set_up_write(t) {
-        target::WriteSetup::Ready(x) => WriteTargetReturn {
+        Ok(x) => WriteTargetReturn {
             left: x,
             answer: answer::ready(),
         },
-        target::WriteSetup::Refused(why) => WriteTargetReturn {
+        Err(why) => WriteTargetReturn {
             left: s,
             answer: answer::c_answer(Answer::Refused(why)),
         },

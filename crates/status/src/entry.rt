@@ -24,5 +24,9 @@ pub fn confirmable(ok: bool, ended: bool, some: bool) -> Result<(), Refusal>
     ensures { result ≡ confirmable_of ok ended some }
 {
     admit(ok, ended)?;
-    if some { Ok(()) } else { Err(Refusal::AnswerWithoutFrame) }
+    if some {
+        Ok(())
+    } else {
+        Err(Refusal::AnswerWithoutFrame)
+    }
 }

@@ -1,7 +1,7 @@
 // What a call leaves of the record that it met, and what it answers.
 ghost use Rattle.std.specs.Prelude.{◌≡◌};
 ghost use Rattle.status.specs.Number.{refusal_number};
-ghost use Rattle.status.specs.Answer.{Said, says, ◌saying◌};
+ghost use Rattle.status.specs.Answer.{Said, ◌saying◌};
 ghost use Rattle.status.specs.Stepped.{stepped};
 
 use crate::answer::Answer;
@@ -15,12 +15,6 @@ pub struct Stepped<X> {
 }
 
 impl<X> Stepped<X> {
-    pub fn new(left: X, answer: Answer) -> Stepped<X>
-        ensures { stepped result ≡ (left saying says answer) }
-    {
-        Stepped { left, answer }
-    }
-
     // 1 to 8: the record stays as it was.
     pub fn refused(left: X, why: Refusal) -> Stepped<X>
         ensures { stepped result ≡ (left saying Said.refused (refusal_number why)) }

@@ -11,9 +11,6 @@ use Rattle.receiver_steps.specs.Record.{beginning}
 use Rattle.receiver_steps.specs.Record as receiver
 use Rattle.target.specs.Fields.{receiver≔, state≔}
 use Rattle.target.specs.declared.types.Target.{Target}
-use Rattle.target.specs.declared.types.WriteStepped.{WriteStepped}
-use Rattle.target.specs.declared.types.WriteSetup.{WriteSetup}
-use Rattle.target.specs.declared.types.WriteSetup.TheVariants.{Ready, Refused}
 
 -- the XFER_RDY's state: none was handed out yet; its confirmation is due; it is to be sent again; it had its ACK
 abbrev pub NONE : ℕ
@@ -54,12 +51,3 @@ set_up_tests t = limits_hold t ∷ t.write ∷ []
 
 abbrev pub set_up_write_of : Transfer → Result Target
 set_up_write_of t = granted (all (set_up_tests t)) (start_of t)
-
--- what the set_up answers: the record, or a number
-abbrev pub made : WriteSetup → Result Target
-made (Ready x) = Result.value x
-made (Refused why) = Result.number (refusal_number why)
-
--- what an event leaves and answers
-abbrev pub stepped : WriteStepped → Left Target
-stepped y = y.target saying says y.answer

@@ -1,16 +1,16 @@
 // ACK, NAK, timeout, cut and nexus loss at the XFER_RDY.
 ghost use Rattle.std.specs.Prelude.{◌≡◌};
+ghost use Rattle.status.specs.Stepped.{stepped};
 ghost use Rattle.status.specs.Number.{failure_number};
 ghost use Rattle.status.specs.Answer.{Word, Said, ◌saying◌};
-ghost use Rattle.target.specs.Record.{stepped};
 ghost use Rattle.target.specs.Confirmation.{confirms_of, acknowledged_of, retry_of, ack_of, nak_of, timeout_of, cut_of, loss_of};
 
 use crate::record;
-use crate::types::{Target, WriteStepped};
-use status::{Answer, Entry, Failure};
+use crate::types::Target;
+use status::{Answer, Failure, Refusal, Stepped};
 
 // 1, 2, then 4.
-fn confirmable(x: Target) -> Entry
+fn confirmable(x: Target) -> Result<(), Refusal>
     ensures { result ≡ confirms_of x }
 {
     let ok = record::holds(x);
@@ -19,7 +19,7 @@ fn confirmable(x: Target) -> Entry
 }
 
 // At its ACK, expected offset and filled mark are the burst's base, and the sum of milliseconds starts from zero.
-fn acknowledged(mut x: Target) -> WriteStepped
+fn acknowledged(mut x: Target) -> Stepped<Target>
     ensures { stepped result ≡ (acknowledged_of x saying Said.word Word.acknowledged) }
 {
     let mut r = x.receiver;
@@ -29,87 +29,78 @@ fn acknowledged(mut x: Target) -> WriteStepped
     x.receiver = r;
     x.state = Target::READY;
     x.elapsed = 0;
-    WriteStepped {
-        target: x,
-        answer: Answer::Acknowledged,
-    }
+    Stepped { left: x, answer: Answer::Acknowledged }
 }
 
-fn retry(mut x: Target, cause: Failure) -> WriteStepped
+fn retry(mut x: Target, cause: Failure) -> Stepped<Target>
     ensures { stepped result ≡ retry_of x (failure_number cause) }
 {
     let limit = x.receiver.transfer.limit;
     if x.retries < limit {
         x.retries = x.retries + 1;
         x.state = Target::AGAIN;
-        WriteStepped {
-            target: x,
-            answer: Answer::Retry,
-        }
+        Stepped { left: x, answer: Answer::Retry }
     } else {
         record::failed(x, cause)
     }
 }
 
 // 1, 2, 4, else acknowledged.
-pub fn write_ack_received(x: Target) -> WriteStepped
+pub fn write_ack_received(x: Target) -> Stepped<Target>
     ensures { stepped result ≡ ack_of x }
 {
     match confirmable(x) {
-        Entry::Closed(why) => record::refused(x, why),
-        Entry::Open => acknowledged(x),
+        Err(why) => Stepped::refused(x, why),
+        Ok(()) => acknowledged(x),
     }
 }
 
 // 1, 2, 4; retry or 28.
-pub fn write_nak_received(x: Target) -> WriteStepped
+pub fn write_nak_received(x: Target) -> Stepped<Target>
     ensures { stepped result ≡ nak_of x }
 {
     match confirmable(x) {
-        Entry::Closed(why) => record::refused(x, why),
-        Entry::Open => retry(x, Failure::NakReceived),
+        Err(why) => Stepped::refused(x, why),
+        Ok(()) => retry(x, Failure::NakReceived),
     }
 }
 
 // 1, 2, 4; retry or 29.
-pub fn write_ack_nak_timeout(x: Target) -> WriteStepped
+pub fn write_ack_nak_timeout(x: Target) -> Stepped<Target>
     ensures { stepped result ≡ timeout_of x }
 {
     match confirmable(x) {
-        Entry::Closed(why) => record::refused(x, why),
-        Entry::Open => retry(x, Failure::AckNakTimeout),
+        Err(why) => Stepped::refused(x, why),
+        Ok(()) => retry(x, Failure::AckNakTimeout),
     }
 }
 
 // 1, 2; unchanged, retry or 30.
-pub fn write_connection_lost(x: Target) -> WriteStepped
+pub fn write_connection_lost(x: Target) -> Stepped<Target>
     ensures { stepped result ≡ cut_of x }
 {
     let ok = record::holds(x);
     let ended = x.receiver.ended;
     match status::admit(ok, ended) {
-        Entry::Closed(why) => record::refused(x, why),
-        Entry::Open => {
+        Err(why) => Stepped::refused(x, why),
+        Ok(()) => {
             if x.state == Target::UNANSWERED {
                 retry(x, Failure::ConnectionLost)
             } else {
-                WriteStepped {
-                    target: x,
-                    answer: Answer::Unchanged,
-                }
+                Stepped { left: x, answer: Answer::Unchanged }
             }
         }
     }
 }
 
 // 1, 2, else 31.
-pub fn write_nexus_lost(x: Target) -> WriteStepped
+pub fn write_nexus_lost(x: Target) -> Stepped<Target>
     ensures { stepped result ≡ loss_of x }
 {
     let ok = record::holds(x);
     let ended = x.receiver.ended;
     match status::admit(ok, ended) {
-        Entry::Closed(why) => record::refused(x, why),
-        Entry::Open => record::failed(x, Failure::NexusLoss),
+        Err(why) => Stepped::refused(x, why),
+        Ok(()) => record::failed(x, Failure::NexusLoss),
     }
 }

@@ -1,16 +1,16 @@
 // Arrivals of any bytes in a write command: the target takes DATA.
 ghost use Rattle.std.specs.Prelude.{◌≡◌, true, false, length, take, drop, ◌+◌, ◌≤◌};
+ghost use Rattle.status.specs.Stepped.{stepped};
 ghost use Rattle.frame.specs.Read.{header_in, iu_of};
 ghost use Rattle.receiver_steps.specs.DataFrame.{storing};
 ghost use Rattle.receiver_steps.specs.Record as receiver;
-ghost use Rattle.target.specs.Record.{stepped};
 ghost use Rattle.target.specs.Arrival.{freed_of, lifted_of, is_current, taken_of, lent_of, write_arrival_of};
 
 use crate::record;
-use crate::types::{Target, WriteStepped};
-use arrival::{Accepted, Arrived, Role};
+use crate::types::Target;
+use arrival::{Arrived, Role};
 use frame::Header;
-use status::{Answer, Entry, Refusal};
+use status::{Answer, Refusal, Stepped};
 
 // DATA stored under the current tag: the earlier ones leave use.
 fn freed(mut x: Target) -> Target
@@ -23,23 +23,17 @@ fn freed(mut x: Target) -> Target
 }
 
 // The receiving port's answer; where DATA was stored, the sum of milliseconds starts from zero.
-fn lift(mut x: Target, z: receiver::Stepped) -> WriteStepped
-    ensures { stepped result ≡ lifted_of x (receiver.stepped z) }
+fn lift(mut x: Target, z: Stepped<Receiver>) -> Stepped<Target>
+    ensures { stepped result ≡ lifted_of x (stepped z) }
 {
     let r = z.receiver;
     let a = z.answer;
     x.receiver = r;
     if a.stores() {
         x.elapsed = 0;
-        return WriteStepped {
-            target: freed(x),
-            answer: a,
-        };
+        return Stepped { left: freed(x), answer: a };
     }
-    WriteStepped {
-        target: x,
-        answer: a,
-    }
+    Stepped { left: x, answer: a }
 }
 
 // The DATA carries the tag of the last XFER_RDY handed out.
@@ -50,19 +44,16 @@ fn is_current(x: Target, h: Header) -> bool
 }
 
 // Behind 1 and 2, DATA that has passed 5 to 7 and the tag: 8 for its transfer tag; discarded until the XFER_RDY's ACK, then the receiving port's.
-fn take(x: Target, a: Arrived, bytes: &[u8], buffer: &mut [u8]) -> WriteStepped
+fn take(x: Target, a: Arrived, bytes: &[u8], buffer: &mut [u8]) -> Stepped<Target>
     requires { (a.start + a.len ≤ length bytes.now) × (lent_of x (length buffer.old) ≡ true) × (x.receiver.ended ≡ false) }
     ensures { (stepped result ≡ taken_of x a (length buffer.old)) × (buffer.new ≡ storing (taken_of x a (length buffer.old)).says a.header.offset (take a.len (drop a.start bytes.now)) buffer.old) }
 {
     let h = a.header;
     if !is_current(x, h) {
-        return record::refused(x, Refusal::UnknownTag);
+        return Stepped::refused(x, Refusal::UnknownTag);
     }
     if x.state != Target::READY {
-        return WriteStepped {
-            target: x,
-            answer: Answer::Discarded,
-        };
+        return Stepped { left: x, answer: Answer::Discarded };
     }
     let start = a.start;
     let past = start + a.len;
@@ -84,18 +75,18 @@ fn lent(x: Target, n: usize) -> bool
 }
 
 // 1, 2, 5, 6, 7, 8 (tag, then TPTT); discarded (no ACK yet); then as the receiving port: discarded (filled), 20, 21, 22, discarded, stored or received.
-pub fn write_frame_received(x: Target, bytes: &[u8], buffer: &mut [u8]) -> WriteStepped
+pub fn write_frame_received(x: Target, bytes: &[u8], buffer: &mut [u8]) -> Stepped<Target>
     ensures { (stepped result ≡ write_arrival_of x bytes.now (length buffer.old)) × (buffer.new ≡ storing (write_arrival_of x bytes.now (length buffer.old)).says (header_in bytes.now).offset (iu_of bytes.now) buffer.old) }
 {
     let ok = lent(x, buffer.len());
     let ended = x.receiver.ended;
     match status::admit(ok, ended) {
-        Entry::Closed(why) => record::refused(x, why),
-        Entry::Open => {
+        Err(why) => Stepped::refused(x, why),
+        Ok(()) => {
             let t = x.receiver.transfer;
             match arrival::accept(Role::WriteTarget, t, bytes) {
-                Accepted::Refused(why) => record::refused(x, why),
-                Accepted::Frame(a) => take(x, a, bytes, buffer),
+                Err(why) => Stepped::refused(x, why),
+                Ok(a) => take(x, a, bytes, buffer),
             }
         }
     }

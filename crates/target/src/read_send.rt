@@ -1,14 +1,14 @@
 // A read's frames asked for at the target and their confirmations: the sending port's, for a read's record; a write's is 1.
 ghost use Rattle.std.specs.Prelude.{ℕ, List, [], ◌≡◌};
+ghost use Rattle.status.specs.Stepped.{stepped};
 ghost use Rattle.status.specs.Answer.{Said, ◌saying◌};
 ghost use Rattle.frame.specs.Write.{handing};
 ghost use Rattle.sender_steps.specs.Count.{Counts};
-ghost use Rattle.sender_steps.specs.Record.{stepped};
 ghost use Rattle.sender_steps.specs.Transmit.{frame_of};
 ghost use Rattle.target.specs.ReadSend.{read_next_of, read_ack_of, read_nak_of, read_timeout_of, read_cut_of, read_loss_of};
 
 use sender::Sender;
-use status::{Answer, Refusal};
+use status::{Answer, Refusal, Stepped};
 
 fn is_write(s: Sender) -> bool
     ensures { result ≡ s.transfer.write }
@@ -17,17 +17,14 @@ fn is_write(s: Sender) -> bool
     t.write
 }
 
-fn bad_request(s: Sender) -> sender::Stepped
+fn bad_request(s: Sender) -> Stepped<Sender>
     ensures { (stepped result ≡ (s saying Said.refused 1)) × ((f : List ℕ) → Counts s f (stepped result)) }
 {
-    sender::Stepped {
-        sender: s,
-        answer: Answer::Refused(Refusal::BadRequest),
-    }
+    Stepped { left: s, answer: Answer::Refused(Refusal::BadRequest) }
 }
 
 // 1, 2; wait; 3, else a frame of that length.
-pub fn read_next_frame(s: Sender, buffer: &[u8], out: &mut [u8]) -> sender::Stepped
+pub fn read_next_frame(s: Sender, buffer: &[u8], out: &mut [u8]) -> Stepped<Sender>
     ensures { (stepped result ≡ read_next_of s buffer.now out.old) × (out.new ≡ handing (read_next_of s buffer.now out.old).says (frame_of s buffer.now) out.old) × Counts s (frame_of s buffer.now) (stepped result) }
 {
     if is_write(s) {
@@ -38,7 +35,7 @@ pub fn read_next_frame(s: Sender, buffer: &[u8], out: &mut [u8]) -> sender::Step
 }
 
 // 1, 2, 4; taken, delivered, retry, or 28 (a NAK is pending).
-pub fn read_ack_received(s: Sender) -> sender::Stepped
+pub fn read_ack_received(s: Sender) -> Stepped<Sender>
     ensures { (stepped result ≡ read_ack_of s) × Counts s [] (stepped result) }
 {
     if is_write(s) {
@@ -49,7 +46,7 @@ pub fn read_ack_received(s: Sender) -> sender::Stepped
 }
 
 // 1, 2, 4; taken, retry, or 28.
-pub fn read_nak_received(s: Sender) -> sender::Stepped
+pub fn read_nak_received(s: Sender) -> Stepped<Sender>
     ensures { (stepped result ≡ read_nak_of s) × Counts s [] (stepped result) }
 {
     if is_write(s) {
@@ -60,7 +57,7 @@ pub fn read_nak_received(s: Sender) -> sender::Stepped
 }
 
 // 1, 2, 4; retry, 28 (a NAK is pending) or 29.
-pub fn read_ack_nak_timeout(s: Sender) -> sender::Stepped
+pub fn read_ack_nak_timeout(s: Sender) -> Stepped<Sender>
     ensures { (stepped result ≡ read_timeout_of s) × Counts s [] (stepped result) }
 {
     if is_write(s) {
@@ -71,7 +68,7 @@ pub fn read_ack_nak_timeout(s: Sender) -> sender::Stepped
 }
 
 // 1, 2; unchanged, retry, 28 (a NAK is pending) or 30.
-pub fn read_connection_lost(s: Sender) -> sender::Stepped
+pub fn read_connection_lost(s: Sender) -> Stepped<Sender>
     ensures { (stepped result ≡ read_cut_of s) × Counts s [] (stepped result) }
 {
     if is_write(s) {
@@ -82,7 +79,7 @@ pub fn read_connection_lost(s: Sender) -> sender::Stepped
 }
 
 // 1, 2, else 31.
-pub fn read_nexus_lost(s: Sender) -> sender::Stepped
+pub fn read_nexus_lost(s: Sender) -> Stepped<Sender>
     ensures { (stepped result ≡ read_loss_of s) × Counts s [] (stepped result) }
 {
     if is_write(s) {

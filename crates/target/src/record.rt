@@ -1,11 +1,12 @@
 // The record: its set-up, and the tests of number 1.
 ghost use Rattle.std.specs.Prelude.{◌≡◌};
-ghost use Rattle.status.specs.Number.{refusal_number, failure_number};
-ghost use Rattle.status.specs.Answer.{Said, ◌saying◌};
-ghost use Rattle.target.specs.Record.{holds_of, failed_of, made, set_up_write_of, stepped};
+ghost use Rattle.status.specs.Stepped.{stepped};
+ghost use Rattle.status.specs.Result.{or_refusal};
+ghost use Rattle.status.specs.Number.{failure_number};
+ghost use Rattle.target.specs.Record.{holds_of, failed_of, set_up_write_of};
 
-use crate::types::{Target, WriteSetup, WriteStepped};
-use status::{Answer, Failure, Refusal};
+use crate::types::Target;
+use status::{Answer, Failure, Refusal, Stepped};
 use transfer::Transfer;
 
 // Number 1 does not apply: limits, marks, state and counts are in order.
@@ -23,18 +24,8 @@ pub(crate) fn holds(x: Target) -> bool
         & (x.elapsed <= t.irt)
 }
 
-// A refusal leaves the record as it was.
-pub(crate) fn refused(x: Target, why: Refusal) -> WriteStepped
-    ensures { stepped result ≡ (x saying Said.refused (refusal_number why)) }
-{
-    WriteStepped {
-        target: x,
-        answer: Answer::Refused(why),
-    }
-}
-
 // A failure ends the port: nothing is unanswered.
-pub(crate) fn failed(mut x: Target, why: Failure) -> WriteStepped
+pub(crate) fn failed(mut x: Target, why: Failure) -> Stepped<Target>
     ensures { stepped result ≡ failed_of x (failure_number why) }
 {
     let mut r = x.receiver;
@@ -43,19 +34,16 @@ pub(crate) fn failed(mut x: Target, why: Failure) -> WriteStepped
     if x.state == Target::UNANSWERED {
         x.state = Target::AGAIN;
     }
-    WriteStepped {
-        target: x,
-        answer: Answer::Failed(why, 0),
-    }
+    Stepped { left: x, answer: Answer::Failed(why, 0) }
 }
 
 // No XFER_RDY is handed out yet: 1, else the record with an empty burst at 0, filled.
-pub fn set_up_write(t: Transfer) -> WriteSetup
-    ensures { made result ≡ set_up_write_of t }
+pub fn set_up_write(t: Transfer) -> Result<Target, Refusal>
+    ensures { or_refusal result ≡ set_up_write_of t }
 {
     let limits = t.limits_hold();
     if limits & t.write {
-        WriteSetup::Ready(Target {
+        Ok(Target {
             receiver: receiver_steps::begin(t, 0, 0),
             state: Target::NONE,
             tptt: 0,
@@ -66,6 +54,6 @@ pub fn set_up_write(t: Transfer) -> WriteSetup
             elapsed: 0,
         })
     } else {
-        WriteSetup::Refused(Refusal::BadRequest)
+        Err(Refusal::BadRequest)
     }
 }

@@ -1,11 +1,11 @@
 // Reports of time in a write command: an initiator that goes silent (request K4).
 ghost use Rattle.std.specs.Prelude.{◌≡◌};
-ghost use Rattle.target.specs.Record.{stepped};
+ghost use Rattle.status.specs.Stepped.{stepped};
 ghost use Rattle.target.specs.Time.{runs_of, elapsed_of, time_of};
 
 use crate::record;
-use crate::types::{Target, WriteStepped};
-use status::{Answer, Entry, Failure};
+use crate::types::Target;
+use status::{Answer, Failure, Stepped};
 
 // The timeout is on, the XFER_RDY had its ACK and the burst is not filled.
 fn runs(x: Target) -> bool
@@ -17,7 +17,7 @@ fn runs(x: Target) -> bool
 }
 
 // 33 where the sum reaches the timeout; else it is kept, below the timeout.
-fn elapse(mut x: Target, milliseconds: u16) -> WriteStepped
+fn elapse(mut x: Target, milliseconds: u16) -> Stepped<Target>
     ensures { stepped result ≡ elapsed_of x milliseconds }
 {
     let irt = x.receiver.transfer.irt;
@@ -26,28 +26,22 @@ fn elapse(mut x: Target, milliseconds: u16) -> WriteStepped
         return record::failed(x, Failure::InitiatorResponseTimeout);
     }
     x.elapsed = sum as u16;
-    WriteStepped {
-        target: x,
-        answer: Answer::Taken,
-    }
+    Stepped { left: x, answer: Answer::Taken }
 }
 
 // 1, 2; unchanged outside the span; 33 or taken.
-pub fn write_time_reported(x: Target, milliseconds: u16) -> WriteStepped
+pub fn write_time_reported(x: Target, milliseconds: u16) -> Stepped<Target>
     ensures { stepped result ≡ time_of x milliseconds }
 {
     let ok = record::holds(x);
     let ended = x.receiver.ended;
     match status::admit(ok, ended) {
-        Entry::Closed(why) => record::refused(x, why),
-        Entry::Open => {
+        Err(why) => Stepped::refused(x, why),
+        Ok(()) => {
             if runs(x) {
                 elapse(x, milliseconds)
             } else {
-                WriteStepped {
-                    target: x,
-                    answer: Answer::Unchanged,
-                }
+                Stepped { left: x, answer: Answer::Unchanged }
             }
         }
     }

@@ -1,13 +1,14 @@
 // An XFER_RDY asked for.
 ghost use Rattle.std.specs.Prelude.{◌≡◌, true, ◌≤◌};
+ghost use Rattle.status.specs.Stepped.{stepped};
 ghost use Rattle.frame.specs.Write.{handing};
-ghost use Rattle.target.specs.Record.{holds_of, stepped};
+ghost use Rattle.target.specs.Record.{holds_of};
 ghost use Rattle.target.specs.Transmit.{due_of, burst_end, next_burst, burst_of, issued_of, xfer_rdy_header, xfer_rdy_iu, frame_of, hands_of, next_of};
 
-use crate::types::{Target, WriteStepped};
+use crate::types::Target;
 use crate::{record, tag};
-use frame::{Flags, Header, Written, XferRdy};
-use status::{Answer, Entry};
+use frame::{Flags, Header, XferRdy};
+use status::{Answer, Stepped};
 
 // One is to be sent again, or the previous burst is filled and the byte count is not reached.
 fn is_due(x: Target) -> bool
@@ -107,7 +108,7 @@ fn iu(y: Target) -> [u8; 12]
 }
 
 // An XFER_RDY is due: it goes out, or the output buffer is too short.
-fn transmit(x: Target, out: &mut [u8]) -> WriteStepped
+fn transmit(x: Target, out: &mut [u8]) -> Stepped<Target>
     requires { holds_of x ≡ true }
     ensures { (stepped result ≡ hands_of x out.old) × (out.new ≡ handing (hands_of x out.old).says (frame_of x) out.old) }
 {
@@ -115,30 +116,24 @@ fn transmit(x: Target, out: &mut [u8]) -> WriteStepped
     let bytes = iu(y);
     let written = frame::write(header(y, x.state == Target::AGAIN), &bytes, out);
     match written {
-        Written::Frame(length) => WriteStepped {
-            target: y,
-            answer: Answer::Frame(length),
-        },
-        Written::Refused(why) => record::refused(x, why),
+        Ok(length) => Stepped { left: y, answer: Answer::Frame(length) },
+        Err(why) => Stepped::refused(x, why),
     }
 }
 
 // 1, 2; wait; 3, else an XFER_RDY of that length.
-pub fn write_next_frame(x: Target, out: &mut [u8]) -> WriteStepped
+pub fn write_next_frame(x: Target, out: &mut [u8]) -> Stepped<Target>
     ensures { (stepped result ≡ next_of x out.old) × (out.new ≡ handing (next_of x out.old).says (frame_of x) out.old) }
 {
     let ok = record::holds(x);
     let ended = x.receiver.ended;
     match status::admit(ok, ended) {
-        Entry::Closed(why) => record::refused(x, why),
-        Entry::Open => {
+        Err(why) => Stepped::refused(x, why),
+        Ok(()) => {
             if is_due(x) {
                 transmit(x, out)
             } else {
-                WriteStepped {
-                    target: x,
-                    answer: Answer::Wait,
-                }
+                Stepped { left: x, answer: Answer::Wait }
             }
         }
     }

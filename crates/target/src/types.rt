@@ -1,6 +1,6 @@
 // The target's record in a write command, and what its events leave.
 use receiver::Receiver;
-use status::{Answer, Refusal};
+use status::{Answer, Refusal, Stepped};
 
 #[repr(C)]
 #[derive(Clone, Copy)]
@@ -33,17 +33,4 @@ impl Target {
 
     // it had its ACK: DATA is taken
     pub const READY: u8 = 3;
-}
-
-// What an event leaves and answers. A refusal leaves the record as it was.
-#[derive(Clone, Copy)]
-pub struct WriteStepped {
-    pub target: Target,
-    pub answer: Answer,
-}
-
-#[derive(Clone, Copy)]
-pub enum WriteSetup {
-    Ready(Target),
-    Refused(Refusal),
 }

@@ -7,8 +7,6 @@ use Rattle.status.specs.Pick.{all}
 use Rattle.status.specs.Number.{refusal_number}
 use Rattle.status.specs.Result.{Result, granted}
 use Rattle.transfer.specs.declared.Transfer.{Transfer}
-use Rattle.transfer.specs.declared.Made.{Made}
-use Rattle.transfer.specs.declared.Made.TheVariants.{Taken, Refused}
 
 -- "start plus count": where a read ends in the host's buffer, which "is at least that sum long"; in a write it is the byte count
 abbrev pub past : Transfer → ℕ
@@ -27,11 +25,6 @@ limits t =
 
 unfoldable pub limits_hold : Transfer → Bool
 limits_hold t = all (limits t)
-
--- what the constructor answers: the transfer, or a number
-abbrev pub made : Made → Result Transfer
-made (Taken t) = Result.value t
-made (Refused why) = Result.number (refusal_number why)
 
 -- a transfer outside the limits is 1
 abbrev pub made_of : Transfer → Result Transfer

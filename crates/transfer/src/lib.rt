@@ -2,7 +2,8 @@
 #![tactic(auto)]
 
 ghost use Rattle.std.specs.Prelude.{◌≡◌};
-ghost use Rattle.transfer.specs.Limits.{past, limits_hold, made, made_of};
+ghost use Rattle.status.specs.Result.{or_refusal};
+ghost use Rattle.transfer.specs.Limits.{past, limits_hold, made_of};
 
 use status::Refusal;
 
@@ -33,12 +34,6 @@ pub struct Transfer {
     pub irt: u16,
     // where a read begins in the host's buffer; 0 in a write
     pub start: u32,
-}
-
-#[derive(Clone, Copy)]
-pub enum Made {
-    Taken(Transfer),
-    Refused(Refusal),
 }
 
 impl Transfer {
@@ -108,28 +103,28 @@ impl Transfer {
         value: u16,
         irt: u16,
         start: u32,
-    ) -> Made
-        ensures { made result ≡ made_of (record { write = write; count = count; size = size; window = window; limit = limit; burst = burst; local = local; remote = remote; tag = tag; sas2 = sas2; value = value; irt = irt; start = start }) }
+    ) -> Result<Transfer, Refusal>
+        ensures { or_refusal result ≡ made_of (record { write = write; count = count; size = size; window = window; limit = limit; burst = burst; local = local; remote = remote; tag = tag; sas2 = sas2; value = value; irt = irt; start = start }) }
     {
         let t = Transfer {
-            write: write,
-            count: count,
-            size: size,
-            window: window,
-            limit: limit,
-            burst: burst,
-            local: local,
-            remote: remote,
-            tag: tag,
-            sas2: sas2,
-            value: value,
-            irt: irt,
-            start: start,
+            write,
+            count,
+            size,
+            window,
+            limit,
+            burst,
+            local,
+            remote,
+            tag,
+            sas2,
+            value,
+            irt,
+            start,
         };
         if t.limits_hold() {
-            Made::Taken(t)
+            Ok(t)
         } else {
-            Made::Refused(Refusal::BadRequest)
+            Err(Refusal::BadRequest)
         }
     }
 }

@@ -8,24 +8,24 @@ use Rattle.sender_steps.specs.Transmit.{frame_step_of}
 use Rattle.status.specs.Pick.{pick}
 use Rattle.initiator.proofs.write_send.write_next_frame.Goals as goal
 
-pub returns-in-Closed : goal.returns-in-Closed
+pub returns-in-Err : goal.returns-in-Err
 unfolding next_of
-returns-in-Closed c =
+returns-in-Err c =
     let a = c.args in
-    told a.w a.buffer.now a.out.now (rw (← c.lent-ok.ensures, sym c.admit.ensures ∙ c.in-Closed.is) refl) c.refused.ensures refl
+    told a.w a.buffer.now a.out.now (rw (← c.lent-ok.ensures, sym c.admit.ensures ∙ c.in-Err.is) refl) c.refused.ensures refl
 
 pub returns-then-held_up : goal.returns-then-held_up
 unfolding next_of pick
 returns-then-held_up c =
     let a = c.args in
-    told a.w a.buffer.now a.out.now (rw (← c.lent-ok.ensures, sym c.admit.ensures ∙ c.in-Open.is, sym c.held_up.ensures ∙ c.if-held_up.true) refl) refl refl
+    told a.w a.buffer.now a.out.now (rw (← c.lent-ok.ensures, sym c.admit.ensures ∙ c.in-Ok.is, sym c.held_up.ensures ∙ c.if-held_up.true) refl) refl refl
 
 pub returns-then-w : goal.returns-then-w
 returns-then-w c =
     let a = c.args in
     let w = a.w in
     let d = a.buffer.now in
-    let o = opened _ _ (sym c.in-Open.is ∙ c.admit.ensures) in
+    let o = opened _ _ (sym c.in-Ok.is ∙ c.admit.ensures) in
     let l = sym c.lent-ok.ensures ∙ o.0 in
     let p = c.if-w.true in
     let f = c.first.ensures in
@@ -37,7 +37,7 @@ returns-else-w c =
     let a = c.args in
     let w = a.w in
     let d = a.buffer.now in
-    let o = opened _ _ (sym c.in-Open.is ∙ c.admit.ensures) in
+    let o = opened _ _ (sym c.in-Ok.is ∙ c.admit.ensures) in
     let l = sym c.lent-ok.ensures ∙ o.0 in
     let p = c.if-w.false in
     let f = c.frame_step.ensures in

@@ -1,12 +1,11 @@
 use mathlib.Core.Path.{sym, ap, ◌∙◌}
-use Rattle.frame.specs.Response.{response_read}
 use Rattle.initiator.specs.WriteTake.{response_of}
 use Rattle.initiator.proofs.write_take.response.Goals as goal
 
-pub returns-in-Failed : goal.returns-in-Failed
+pub returns-in-Err : goal.returns-in-Err
 unfolding response_of
-returns-in-Failed c = rw (sym c.read_response.ensures ∙ ap response_read c.in-Failed.is) c.failed.ensures
+returns-in-Err c = rw (sym c.read_response.ensures ∙ ap response_read c.in-Err.is) c.failed.ensures
 
-pub returns-in-Taken : goal.returns-in-Taken
+pub returns-in-Ok : goal.returns-in-Ok
 unfolding response_of
-returns-in-Taken c = rw (sym c.read_response.ensures ∙ ap response_read c.in-Taken.is) c.opened.ensures
+returns-in-Ok c = rw (sym c.read_response.ensures ∙ ap response_read c.in-Ok.is) c.opened.ensures

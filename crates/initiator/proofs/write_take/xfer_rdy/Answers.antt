@@ -1,28 +1,27 @@
 use mathlib.Core.Logic.{inl, inr}
 use mathlib.Core.Path.{sym, ap, ◌∙◌}
-use Rattle.frame.specs.XferRdy.{xfer_rdy_read}
 use Rattle.initiator.proofs.WriteFits.{end_fits}
 use Rattle.initiator.specs.WriteTake.{xfer_rdy_taken}
 use Rattle.initiator.proofs.write_take.xfer_rdy.Goals as goal
 
 pub asked-requires : goal.asked-requires
-asked-requires c = end_fits _ _ _ c.requires (inl (sym c.judge.ensures ∙ c.in-Next.is))
+asked-requires c = end_fits _ _ _ c.requires (inl (sym c.judge.ensures ∙ c.in-Ok-Next.is ∙ ap Ok c.in-Ok-Next.field-0-is))
 
-pub asked-requires-in-Repeat : goal.asked-requires-in-Repeat
-asked-requires-in-Repeat c = end_fits _ _ _ c.requires (inr (sym c.judge.ensures ∙ c.in-Repeat.is))
+pub asked-requires-in-Ok-Repeat : goal.asked-requires-in-Ok-Repeat
+asked-requires-in-Ok-Repeat c = end_fits _ _ _ c.requires (inr (sym c.judge.ensures ∙ c.in-Ok-Repeat.is ∙ ap Ok c.in-Ok-Repeat.field-0-is))
 
-pub returns-in-Failed : goal.returns-in-Failed
+pub returns-in-Err : goal.returns-in-Err
 unfolding xfer_rdy_taken
-returns-in-Failed c = rw (sym c.read_xfer_rdy.ensures ∙ ap xfer_rdy_read c.in-Failed.is) c.failed.ensures
+returns-in-Err c = rw (sym c.read_xfer_rdy.ensures ∙ ap xfer_rdy_read c.in-Err.is) c.failed.ensures
 
-pub returns-in-Fail : goal.returns-in-Fail
+pub returns-in-Err : goal.returns-in-Err
 unfolding xfer_rdy_taken
-returns-in-Fail c = rw (sym c.read_xfer_rdy.ensures ∙ ap xfer_rdy_read c.in-Taken.is, sym c.judge.ensures ∙ c.in-Fail.is) c.failed-in-Fail.ensures
+returns-in-Err c = rw (sym c.read_xfer_rdy.ensures ∙ ap xfer_rdy_read c.in-Ok.is, sym c.judge.ensures ∙ c.in-Err.is) c.failed-in-Err.ensures
 
-pub returns-in-Next : goal.returns-in-Next
+pub returns-in-Ok-Next : goal.returns-in-Ok-Next
 unfolding xfer_rdy_taken
-returns-in-Next c = rw (sym c.read_xfer_rdy.ensures ∙ ap xfer_rdy_read c.in-Taken.is, sym c.judge.ensures ∙ c.in-Next.is) (rw (c.asked.ensures, c.next_taken.ensures) at c.taken.ensures)
+returns-in-Ok-Next c = rw (sym c.read_xfer_rdy.ensures ∙ ap xfer_rdy_read c.in-Ok.is, sym c.judge.ensures ∙ c.in-Ok-Next.is ∙ ap Ok c.in-Ok-Next.field-0-is) (rw (c.asked.ensures, c.next_taken.ensures) at c.taken.ensures)
 
-pub returns-in-Repeat : goal.returns-in-Repeat
+pub returns-in-Ok-Repeat : goal.returns-in-Ok-Repeat
 unfolding xfer_rdy_taken
-returns-in-Repeat c = rw (sym c.read_xfer_rdy.ensures ∙ ap xfer_rdy_read c.in-Taken.is, sym c.judge.ensures ∙ c.in-Repeat.is) (rw c.asked-in-Repeat.ensures at c.taken-in-Repeat.ensures)
+returns-in-Ok-Repeat c = rw (sym c.read_xfer_rdy.ensures ∙ ap xfer_rdy_read c.in-Ok.is, sym c.judge.ensures ∙ c.in-Ok-Repeat.is ∙ ap Ok c.in-Ok-Repeat.field-0-is) (rw c.asked-in-Ok-Repeat.ensures at c.taken-in-Ok-Repeat.ensures)

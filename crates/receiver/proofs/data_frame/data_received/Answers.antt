@@ -5,11 +5,11 @@ use Rattle.receiver.specs.DataFrame.{arrival_of}
 use Rattle.receiver.proofs.Views.{step_is}
 use Rattle.receiver.proofs.data_frame.data_received.Goals as goal
 
-pub returns-in-Closed : goal.returns-in-Closed
+pub returns-in-Err : goal.returns-in-Err
 unfolding arrival_of
-returns-in-Closed c = rw (← c.lent-ok.ensures, sym c.admit.ensures ∙ c.in-Closed.is) (c.refused.ensures, refl)
+returns-in-Err c = rw (← c.lent-ok.ensures, sym c.admit.ensures ∙ c.in-Err.is) (c.refused.ensures, refl)
 
-pub returns-in-Open : goal.returns-in-Open
-returns-in-Open c =
-    let o = opened _ _ (sym c.in-Open.is ∙ c.admit.ensures) in
+pub returns-in-Ok : goal.returns-in-Ok
+returns-in-Ok c =
+    let o = opened _ _ (sym c.in-Ok.is ∙ c.admit.ensures) in
     rw (step_is _ _ _ _ _ (sym c.lent-ok.ensures ∙ o.0) o.1) c.data_step.ensures

@@ -6,9 +6,9 @@ use Rattle.receiver_steps.proofs.data_frame.stored.Goals as goal
 
 pub returns-then-filled-r : goal.returns-then-filled-r
 unfolding pick
-returns-then-filled-r c = rw (← c.greater-filled.ensures, eq-eqb _ _ c.if-filled-r.true)
+returns-then-filled-r c = rw (← c.max-filled.ensures, eq-eqb _ _ c.if-filled-r.true)
 
 -- was returns-2
 pub returns : goal.returns
 unfolding pick
-returns c = rw (← c.greater-filled.ensures, ne_eqb _ _ c.if-filled-r.false)
+returns c = rw (← c.max-filled.ensures, ne_eqb _ _ c.if-filled-r.false)

@@ -10,18 +10,18 @@ use Rattle.response.proofs.transmit.next_frame.Goals as goal
 
 pub transmit-requires : goal.transmit-requires
 transmit-requires c =
-    let o = opened _ _ (sym c.in-Open.is ∙ c.admit.ensures) in
+    let o = opened _ _ (sym c.in-Ok.is ∙ c.admit.ensures) in
     sym c.lent-ok.ensures ∙ o.0
 
 -- was returns
-pub returns-in-Closed : goal.returns-in-Closed
+pub returns-in-Err : goal.returns-in-Err
 unfolding next_of
-returns-in-Closed c = let e = c in rw (entry_is _ e.lent-ok.ensures e.admit.ensures c.in-Closed.is) (c.refused.ensures, refl)
+returns-in-Err c = let e = c in rw (entry_is _ e.lent-ok.ensures e.admit.ensures c.in-Err.is) (c.refused.ensures, refl)
 
 -- was returns-2
 pub returns-then-x : goal.returns-then-x
 unfolding next_of pick
-returns-then-x c = let e = c in rw (entry_is _ e.lent-ok.ensures e.admit.ensures c.in-Open.is, c.if-x.true) (refl, refl)
+returns-then-x c = let e = c in rw (entry_is _ e.lent-ok.ensures e.admit.ensures c.in-Ok.is, c.if-x.true) (refl, refl)
 
 -- was returns-3
 pub returns-else-x : goal.returns-else-x
@@ -29,4 +29,4 @@ unfolding next_of
 returns-else-x c =
     let e = c in
     let t = c.transmit.ensures in
-    told _ _ (rw (entry_is _ e.lent-ok.ensures e.admit.ensures c.in-Open.is) (sym (in_false _ _ _ _ c.if-x.false refl))) t.0 t.1
+    told _ _ (rw (entry_is _ e.lent-ok.ensures e.admit.ensures c.in-Ok.is) (sym (in_false _ _ _ _ c.if-x.false refl))) t.0 t.1

@@ -3,14 +3,16 @@ use Prim.Native.Nat.{ℕ, ◌+◌, ◌-◌}
 use mathlib.Core.List.{List}
 use mathlib.Core.Path.{◌≡◌, sym, ap}
 use lib.ListN.{take, drop}
-use Rattle.frame.specs.Write.{answered, written}
-use Rattle.frame.specs.declared.types.Written.{Written}
+use Rattle.frame.specs.Write.{answered}
 use Rattle.frame.proofs.Hands.{wrote}
 use Rattle.sender_steps.specs.Transmit.{lesser, data_header, part_of, frame_of, sent_of}
 use Rattle.sender_steps.specs.declared.types.Sender.{Sender}
 use Rattle.sender_steps.proofs.Fits.{fits}
 use Rattle.sender_steps.proofs.Due.{due}
 use Rattle.sender_steps.proofs.transmit.transmit.Goals as goal
+use Rattle.status.specs.Result.{or_refusal}
+use Rattle.std.specs.Prelude.{Result}
+use Rattle.status.specs.declared.words.Refusal.{Refusal}
 
 -- the frame's data, as the writer got it
 part_is : (s : Sender) (d : List ℕ) (n : ℕ) → n ≡ lesser s → let from = s.next - s.transfer.start in take ((from + n) - from) (drop from d) ≡ part_of s d
@@ -38,11 +40,11 @@ sent-s-requires c =
     (f.next_most, (due _ p.1).window, f.frames_most, c.data_length-n.ensures)
 
 -- was returns
-pub returns-in-Frame : goal.returns-in-Frame
+pub returns-in-Ok : goal.returns-in-Ok
 unfolding frame_of
-returns-in-Frame c =
+returns-in-Ok c =
     let a = c.args in
     let s = a.s in
     let d = a.buffer.now in
     wrote s (sent_of s) (data_header s) (part_of s d) a.out.now
-    (rw c.sent-s.ensures (ap (λ (w : Written). answered s (sent_of s) (written w)) (sym c.in-Frame.is))) c.header.ensures (part_is s d _ c.data_length-n.ensures) c.write-written.ensures
+    (rw c.sent-s.ensures (ap (λ (w : Result ℕ Refusal). answered s (sent_of s) (or_refusal w)) (sym c.in-Ok.is))) c.header.ensures (part_is s d _ c.data_length-n.ensures) c.write-written.ensures

@@ -5,7 +5,6 @@ use lib.ListN.{length, take, drop}
 use Rattle.status.proofs.OpenedCall.{opened, entry_is}
 use Rattle.status.specs.Answer.{Left}
 use Rattle.frame.specs.Read.{header_in, iu_of}
-use Rattle.arrival.specs.Accept.{accepted}
 use Rattle.arrival.specs.declared.Role.TheVariants.{WriteTarget}
 use Rattle.arrival.specs.declared.Arrived.{Arrived}
 use Rattle.arrival.proofs.Passed.{Passed, passed}
@@ -13,6 +12,7 @@ use Rattle.receiver_steps.specs.DataFrame.{storing}
 use Rattle.target.specs.Arrival.{taken_of, write_arrival_of}
 use Rattle.target.specs.declared.types.Target.{Target}
 use Rattle.target.proofs.incoming.write_frame_received.Goals as goal
+use Rattle.status.specs.Result.{or_refusal}
 
 -- the frame that was taken, as the bytes have it
 inside : {f : List ℕ} {a : Arrived} → Passed WriteTarget f a → a.start + a.len ≤ length f
@@ -25,27 +25,27 @@ placed-is x f d {a} p t = (t.0, t.1 ∙ ap (λ (b : Arrived). storing (taken_of 
 pub take-requires : goal.take-requires
 take-requires c =
     let e = c in
-    let o = opened _ _ (sym c.in-Open.is ∙ e.admit.ensures) in
-    (inside (passed _ WriteTarget _ _ (sym c.accept.ensures ∙ ap accepted c.in-Frame.is)), sym e.lent-ok.ensures ∙ o.0, o.1)
+    let o = opened _ _ (sym c.in-Ok.is ∙ e.admit.ensures) in
+    (inside (passed _ WriteTarget _ _ (sym c.accept.ensures ∙ ap or_refusal c.in-Ok.is)), sym e.lent-ok.ensures ∙ o.0, o.1)
 
 -- was returns
-pub returns-in-Closed : goal.returns-in-Closed
+pub returns-in-Err : goal.returns-in-Err
 unfolding write_arrival_of
-returns-in-Closed c = let e = c in rw (entry_is _ e.lent-ok.ensures e.admit.ensures c.in-Closed.is) (c.refused.ensures, refl)
+returns-in-Err c = let e = c in rw (entry_is _ e.lent-ok.ensures e.admit.ensures c.in-Err.is) (c.refused.ensures, refl)
 
 -- was returns-2
-pub returns-in-Refused : goal.returns-in-Refused
+pub returns-in-Err : goal.returns-in-Err
 unfolding write_arrival_of
-returns-in-Refused c =
+returns-in-Err c =
     let e = c in
-    rw (entry_is _ e.lent-ok.ensures e.admit.ensures c.in-Open.is, sym c.accept.ensures ∙ ap accepted c.in-Refused.is) (c.refused-in-Refused.ensures, refl)
+    rw (entry_is _ e.lent-ok.ensures e.admit.ensures c.in-Ok.is, sym c.accept.ensures ∙ ap or_refusal c.in-Err.is) (c.refused-in-Err.ensures, refl)
 
 -- was returns-3
-pub returns-in-Frame : goal.returns-in-Frame
+pub returns-in-Ok : goal.returns-in-Ok
 unfolding write_arrival_of
-returns-in-Frame c =
+returns-in-Ok c =
     let g = c in
     let e = g in
-    let p = sym g.accept.ensures ∙ ap accepted c.in-Frame.is in
+    let p = sym g.accept.ensures ∙ ap or_refusal c.in-Ok.is in
     let s = e.args in
-    rw (entry_is _ e.lent-ok.ensures e.admit.ensures c.in-Open.is, p) (placed-is s.x s.bytes.now s.buffer.now (passed _ WriteTarget _ _ p) c.take.ensures)
+    rw (entry_is _ e.lent-ok.ensures e.admit.ensures c.in-Ok.is, p) (placed-is s.x s.bytes.now s.buffer.now (passed _ WriteTarget _ _ p) c.take.ensures)

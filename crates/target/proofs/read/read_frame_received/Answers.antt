@@ -1,24 +1,24 @@
 use mathlib.Core.Path.{refl, sym, ap, ◌∙◌}
-use Rattle.arrival.specs.Accept.{accepted}
 use Rattle.target.specs.Read.{read_holds_of, read_arrival_of}
 use Rattle.target.proofs.read.read_frame_received.Goals as goal
+use Rattle.status.specs.Result.{or_refusal}
 
 -- was returns
 
-pub returns-in-Closed : goal.returns-in-Closed
+pub returns-in-Err : goal.returns-in-Err
 unfolding read_arrival_of read_holds_of
-returns-in-Closed c = let e = c in rw (← e.holds-holds.ensures, sym e.admit.ensures ∙ c.in-Closed.is) refl
+returns-in-Err c = let e = c in rw (← e.holds-holds.ensures, sym e.admit.ensures ∙ c.in-Err.is) refl
 
 -- was returns-2
-pub returns-in-Refused : goal.returns-in-Refused
+pub returns-in-Err : goal.returns-in-Err
 unfolding read_arrival_of read_holds_of
-returns-in-Refused c =
+returns-in-Err c =
     let e = c in
-    rw (← e.holds-holds.ensures, sym e.admit.ensures ∙ c.in-Open.is, sym c.accept.ensures ∙ ap accepted c.in-Refused.is) refl
+    rw (← e.holds-holds.ensures, sym e.admit.ensures ∙ c.in-Ok.is, sym c.accept.ensures ∙ ap or_refusal c.in-Err.is) refl
 
 -- was returns-3
-pub returns-in-Frame : goal.returns-in-Frame
+pub returns-in-Ok : goal.returns-in-Ok
 unfolding read_arrival_of read_holds_of
-returns-in-Frame c =
+returns-in-Ok c =
     let e = c in
-    rw (← e.holds-holds.ensures, sym e.admit.ensures ∙ c.in-Open.is, sym c.accept.ensures ∙ ap accepted c.in-Frame.is) refl
+    rw (← e.holds-holds.ensures, sym e.admit.ensures ∙ c.in-Ok.is, sym c.accept.ensures ∙ ap or_refusal c.in-Ok.is) refl

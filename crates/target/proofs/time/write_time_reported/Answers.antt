@@ -6,20 +6,20 @@ use Rattle.target.proofs.time.write_time_reported.Goals as goal
 
 -- was returns
 
-pub returns-in-Closed : goal.returns-in-Closed
+pub returns-in-Err : goal.returns-in-Err
 unfolding time_of
-returns-in-Closed c = let e = c in rw (entry_is _ e.holds-ok.ensures e.admit.ensures c.in-Closed.is) c.refused.ensures
+returns-in-Err c = let e = c in rw (entry_is _ e.holds-ok.ensures e.admit.ensures c.in-Err.is) c.refused.ensures
 
 -- was returns-2
 pub returns-then-runs : goal.returns-then-runs
 unfolding time_of
 returns-then-runs c =
     let e = c in
-    rw (entry_is _ e.holds-ok.ensures e.admit.ensures c.in-Open.is) (in_true _ _ _ _ (sym c.runs.ensures ∙ c.if-runs.true) c.elapse.ensures)
+    rw (entry_is _ e.holds-ok.ensures e.admit.ensures c.in-Ok.is) (in_true _ _ _ _ (sym c.runs.ensures ∙ c.if-runs.true) c.elapse.ensures)
 
 -- was returns-3
 pub returns-else-runs : goal.returns-else-runs
 unfolding time_of
 returns-else-runs c =
     let e = c in
-    rw (entry_is _ e.holds-ok.ensures e.admit.ensures c.in-Open.is) (in_false _ _ _ _ (sym c.runs.ensures ∙ c.if-runs.false) refl)
+    rw (entry_is _ e.holds-ok.ensures e.admit.ensures c.in-Ok.is) (in_false _ _ _ _ (sym c.runs.ensures ∙ c.if-runs.false) refl)
