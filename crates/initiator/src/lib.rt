@@ -13,5 +13,8 @@ pub use receiver::{Receiver, set_up_read};
 pub use sense::sense_data;
 pub use types::Writer;
 pub use write_record::set_up_write;
-pub use write_send::{write_ack_nak_timeout, write_ack_received, write_connection_lost, write_nak_received, write_next_frame, write_nexus_lost};
+pub use write_send::{
+    write_ack_nak_timeout, write_ack_received, write_connection_lost, write_nak_received,
+    write_next_frame, write_nexus_lost,
+};
 pub use write_take::write_frame_received;

@@ -26,11 +26,14 @@ fn opened(mut r: Receiver, iu: Part, o: Opened) -> Stepped<Receiver>
     ensures { stepped result ≡ opened_by (Result.value o) r iu.start iu.len }
 {
     r.ended = true;
-    Stepped { left: r, answer: Answer::Response {
+    Stepped {
+        left: r,
+        answer: Answer::Response {
             iu: iu,
             opened: o,
             frames: 0,
-        } }
+        },
+    }
 }
 
 // A RESPONSE, its IU at that place of the frame: 32, 34, else the command has ended.

@@ -1,8 +1,7 @@
 // A write command's frames asked for, and their confirmations, over the sending port.
-ghost use Rattle.std.specs.Prelude.{◌≡◌, [], max};
+ghost use Rattle.std.specs.Prelude.{◌≡◌, []};
 ghost use Rattle.status.specs.Stepped.{stepped};
 ghost use Rattle.frame.specs.Write.{handing};
-ghost use Rattle.sender_steps.specs.Record as sender;
 ghost use Rattle.sender_steps.specs.Transmit.{frame_of, frame_step_of};
 ghost use Rattle.initiator.specs.WriteRecord.{starts_of};
 ghost use Rattle.initiator.specs.WriteCount.{Counts};
@@ -10,28 +9,30 @@ ghost use Rattle.initiator.specs.WriteSend.{lifted_of, reached_of, lent_of, held
 
 use crate::types::Writer;
 use crate::write_record;
+use sender::Sender;
 use status::{Answer, Stepped};
 
 // What the sending port answers.
 fn lift(mut w: Writer, x: Stepped<Sender>) -> Stepped<Writer>
     ensures { stepped result ≡ lifted_of w (stepped x) }
 {
-    let s = x.sender;
-    let a = x.answer;
-    w.sender = s;
-    Stepped { left: w, answer: a }
+    w.sender = x.left;
+    Stepped {
+        left: w,
+        answer: x.answer,
+    }
 }
 
 // The same after a frame asked for, which may have reached further.
 fn reach(mut w: Writer, x: Stepped<Sender>) -> Stepped<Writer>
     ensures { stepped result ≡ reached_of w (stepped x) }
 {
-    let s = x.sender;
-    let a = x.answer;
-    let furthest = greater(w.reached, s.next);
-    w.sender = s;
-    w.reached = furthest;
-    Stepped { left: w, answer: a }
+    w.sender = x.left;
+    w.reached = w.reached.max(x.left.next);
+    Stepped {
+        left: w,
+        answer: x.answer,
+    }
 }
 
 // A refusal leaves the record as it was.
@@ -90,7 +91,10 @@ pub fn write_next_frame(w: Writer, buffer: &[u8], out: &mut [u8]) -> Stepped<Wri
         Err(why) => Stepped::refused(w, why),
         Ok(()) => {
             if held_up(w) {
-                Stepped { left: w, answer: Answer::Wait }
+                Stepped {
+                    left: w,
+                    answer: Answer::Wait,
+                }
             } else {
                 if w.pending {
                     first(w, buffer, out)
@@ -108,12 +112,18 @@ fn counted(mut w: Writer, n: u32) -> Stepped<Writer>
     ensures { stepped result ≡ counted_of w n }
 {
     if n == 0 {
-        return Stepped { left: start(w), answer: Answer::Taken };
+        return Stepped {
+            left: start(w),
+            answer: Answer::Taken,
+        };
     }
     let mut s = w.sender;
     s.unanswered = n;
     w.sender = s;
-    Stepped { left: w, answer: Answer::Taken }
+    Stepped {
+        left: w,
+        answer: Answer::Taken,
+    }
 }
 
 // 1, 2; then the sending port's step, or, while a taken burst waits, the count left.

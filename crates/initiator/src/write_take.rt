@@ -31,7 +31,10 @@ fn failed(w: Writer, why: Failure) -> Stepped<Writer>
     ensures { stepped result ≡ failed_of w (failure_number why) }
 {
     let s = w.sender;
-    Stepped { left: ended(w), answer: Answer::Failed(why, s.frames) }
+    Stepped {
+        left: ended(w),
+        answer: Answer::Failed(why, s.frames),
+    }
 }
 
 // The previous burst is the last one taken, started or not.
@@ -152,7 +155,10 @@ fn taken(mut w: Writer, b: Burst, a: Answer) -> Stepped<Writer>
     let s = w.sender;
     if s.unanswered == 0 {
         let t = s.transfer;
-        return Stepped { left: write_record::begin(t, b), answer: a };
+        return Stepped {
+            left: write_record::begin(t, b),
+            answer: a,
+        };
     }
     w.pending = true;
     w.taken = b;
@@ -182,11 +188,14 @@ fn opened(w: Writer, iu: Part, o: Opened) -> Stepped<Writer>
     ensures { stepped result ≡ opened_by (Result.value o) w iu.start iu.len }
 {
     let s = w.sender;
-    Stepped { left: ended(w), answer: Answer::Response {
+    Stepped {
+        left: ended(w),
+        answer: Answer::Response {
             iu: iu,
             opened: o,
             frames: s.frames,
-        } }
+        },
+    }
 }
 
 // A RESPONSE, its IU at that place of the frame: 32, 34, else the command has ended.

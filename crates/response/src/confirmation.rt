@@ -19,7 +19,10 @@ fn confirmable(x: Responder) -> Result<(), Refusal>
 fn failed(x: Responder, why: Failure) -> Stepped<Responder>
     ensures { stepped result ≡ failed_of x (failure_number why) }
 {
-    Stepped { left: record::ended(x), answer: Answer::Failed(why, 0) }
+    Stepped {
+        left: record::ended(x),
+        answer: Answer::Failed(why, 0),
+    }
 }
 
 fn retry(mut x: Responder, cause: Failure) -> Stepped<Responder>
@@ -29,7 +32,10 @@ fn retry(mut x: Responder, cause: Failure) -> Stepped<Responder>
     if x.retries < most {
         x.retries = x.retries + 1;
         x.unanswered = false;
-        Stepped { left: x, answer: Answer::Retry }
+        Stepped {
+            left: x,
+            answer: Answer::Retry,
+        }
     } else {
         failed(x, cause)
     }
@@ -41,7 +47,10 @@ pub fn ack_received(x: Responder) -> Stepped<Responder>
 {
     match confirmable(x) {
         Err(why) => Stepped::refused(x, why),
-        Ok(()) => Stepped { left: record::ended(x), answer: Answer::Delivered(0) },
+        Ok(()) => Stepped {
+            left: record::ended(x),
+            answer: Answer::Delivered(0),
+        },
     }
 }
 
@@ -76,7 +85,10 @@ pub fn connection_lost(x: Responder) -> Stepped<Responder>
             if x.unanswered {
                 retry(x, Failure::ConnectionLost)
             } else {
-                Stepped { left: x, answer: Answer::Unchanged }
+                Stepped {
+                    left: x,
+                    answer: Answer::Unchanged,
+                }
             }
         }
     }

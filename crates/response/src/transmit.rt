@@ -53,7 +53,10 @@ fn transmit(x: Responder, iu: &[u8], out: &mut [u8]) -> Stepped<Responder>
 {
     let written = frame::write(header(x), iu, out);
     match written {
-        Ok(length) => Stepped { left: sent(x), answer: Answer::Frame(length) },
+        Ok(length) => Stepped {
+            left: sent(x),
+            answer: Answer::Frame(length),
+        },
         Err(why) => Stepped::refused(x, why),
     }
 }
@@ -67,7 +70,10 @@ pub fn next_frame(x: Responder, iu: &[u8], out: &mut [u8]) -> Stepped<Responder>
         Err(why) => Stepped::refused(x, why),
         Ok(()) => {
             if x.unanswered {
-                Stepped { left: x, answer: Answer::Wait }
+                Stepped {
+                    left: x,
+                    answer: Answer::Wait,
+                }
             } else {
                 transmit(x, iu, out)
             }

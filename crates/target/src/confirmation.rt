@@ -29,7 +29,10 @@ fn acknowledged(mut x: Target) -> Stepped<Target>
     x.receiver = r;
     x.state = Target::READY;
     x.elapsed = 0;
-    Stepped { left: x, answer: Answer::Acknowledged }
+    Stepped {
+        left: x,
+        answer: Answer::Acknowledged,
+    }
 }
 
 fn retry(mut x: Target, cause: Failure) -> Stepped<Target>
@@ -39,7 +42,10 @@ fn retry(mut x: Target, cause: Failure) -> Stepped<Target>
     if x.retries < limit {
         x.retries = x.retries + 1;
         x.state = Target::AGAIN;
-        Stepped { left: x, answer: Answer::Retry }
+        Stepped {
+            left: x,
+            answer: Answer::Retry,
+        }
     } else {
         record::failed(x, cause)
     }
@@ -87,7 +93,10 @@ pub fn write_connection_lost(x: Target) -> Stepped<Target>
             if x.state == Target::UNANSWERED {
                 retry(x, Failure::ConnectionLost)
             } else {
-                Stepped { left: x, answer: Answer::Unchanged }
+                Stepped {
+                    left: x,
+                    answer: Answer::Unchanged,
+                }
             }
         }
     }

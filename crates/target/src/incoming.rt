@@ -3,13 +3,13 @@ ghost use Rattle.std.specs.Prelude.{◌≡◌, true, false, length, take, drop, 
 ghost use Rattle.status.specs.Stepped.{stepped};
 ghost use Rattle.frame.specs.Read.{header_in, iu_of};
 ghost use Rattle.receiver_steps.specs.DataFrame.{storing};
-ghost use Rattle.receiver_steps.specs.Record as receiver;
 ghost use Rattle.target.specs.Arrival.{freed_of, lifted_of, is_current, taken_of, lent_of, write_arrival_of};
 
 use crate::record;
 use crate::types::Target;
 use arrival::{Arrived, Role};
 use frame::Header;
+use receiver::Receiver;
 use status::{Answer, Refusal, Stepped};
 
 // DATA stored under the current tag: the earlier ones leave use.
@@ -26,14 +26,18 @@ fn freed(mut x: Target) -> Target
 fn lift(mut x: Target, z: Stepped<Receiver>) -> Stepped<Target>
     ensures { stepped result ≡ lifted_of x (stepped z) }
 {
-    let r = z.receiver;
-    let a = z.answer;
-    x.receiver = r;
-    if a.stores() {
+    x.receiver = z.left;
+    if z.answer.stores() {
         x.elapsed = 0;
-        return Stepped { left: freed(x), answer: a };
+        return Stepped {
+            left: freed(x),
+            answer: z.answer,
+        };
     }
-    Stepped { left: x, answer: a }
+    Stepped {
+        left: x,
+        answer: z.answer,
+    }
 }
 
 // The DATA carries the tag of the last XFER_RDY handed out.
@@ -53,7 +57,10 @@ fn take(x: Target, a: Arrived, bytes: &[u8], buffer: &mut [u8]) -> Stepped<Targe
         return Stepped::refused(x, Refusal::UnknownTag);
     }
     if x.state != Target::READY {
-        return Stepped { left: x, answer: Answer::Discarded };
+        return Stepped {
+            left: x,
+            answer: Answer::Discarded,
+        };
     }
     let start = a.start;
     let past = start + a.len;

@@ -12,10 +12,16 @@ mod time;
 mod transmit;
 mod types;
 
-pub use confirmation::{write_ack_nak_timeout, write_ack_received, write_connection_lost, write_nak_received, write_nexus_lost};
+pub use confirmation::{
+    write_ack_nak_timeout, write_ack_received, write_connection_lost, write_nak_received,
+    write_nexus_lost,
+};
 pub use incoming::write_frame_received;
 pub use read::read_frame_received;
-pub use read_send::{read_ack_nak_timeout, read_ack_received, read_connection_lost, read_nak_received, read_next_frame, read_nexus_lost};
+pub use read_send::{
+    read_ack_nak_timeout, read_ack_received, read_connection_lost, read_nak_received,
+    read_next_frame, read_nexus_lost,
+};
 pub use record::set_up_write;
 pub use sender::{Burst, Sender, set_up_read};
 pub use time::write_time_reported;

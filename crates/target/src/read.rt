@@ -14,10 +14,19 @@ pub fn read_frame_received(s: Sender, bytes: &[u8]) -> Stepped<Sender>
     let holds = sender_steps::holds(s);
     let t = s.transfer;
     match status::admit(holds & !t.write, s.ended) {
-        Err(why) => Stepped { left: s, answer: Answer::Refused(why) },
+        Err(why) => Stepped {
+            left: s,
+            answer: Answer::Refused(why),
+        },
         Ok(()) => match arrival::accept(Role::ReadTarget, t, bytes) {
-            Err(why) => Stepped { left: s, answer: Answer::Refused(why) },
-            Ok(_) => Stepped { left: s, answer: Answer::Refused(Refusal::UnexpectedFrameType) },
+            Err(why) => Stepped {
+                left: s,
+                answer: Answer::Refused(why),
+            },
+            Ok(_) => Stepped {
+                left: s,
+                answer: Answer::Refused(Refusal::UnexpectedFrameType),
+            },
         },
     }
 }

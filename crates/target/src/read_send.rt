@@ -20,7 +20,10 @@ fn is_write(s: Sender) -> bool
 fn bad_request(s: Sender) -> Stepped<Sender>
     ensures { (stepped result ≡ (s saying Said.refused 1)) × ((f : List ℕ) → Counts s f (stepped result)) }
 {
-    Stepped { left: s, answer: Answer::Refused(Refusal::BadRequest) }
+    Stepped {
+        left: s,
+        answer: Answer::Refused(Refusal::BadRequest),
+    }
 }
 
 // 1, 2; wait; 3, else a frame of that length.

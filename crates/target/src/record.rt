@@ -34,7 +34,10 @@ pub(crate) fn failed(mut x: Target, why: Failure) -> Stepped<Target>
     if x.state == Target::UNANSWERED {
         x.state = Target::AGAIN;
     }
-    Stepped { left: x, answer: Answer::Failed(why, 0) }
+    Stepped {
+        left: x,
+        answer: Answer::Failed(why, 0),
+    }
 }
 
 // No XFER_RDY is handed out yet: 1, else the record with an empty burst at 0, filled.

@@ -26,7 +26,10 @@ fn elapse(mut x: Target, milliseconds: u16) -> Stepped<Target>
         return record::failed(x, Failure::InitiatorResponseTimeout);
     }
     x.elapsed = sum as u16;
-    Stepped { left: x, answer: Answer::Taken }
+    Stepped {
+        left: x,
+        answer: Answer::Taken,
+    }
 }
 
 // 1, 2; unchanged outside the span; 33 or taken.
@@ -41,7 +44,10 @@ pub fn write_time_reported(x: Target, milliseconds: u16) -> Stepped<Target>
             if runs(x) {
                 elapse(x, milliseconds)
             } else {
-                Stepped { left: x, answer: Answer::Unchanged }
+                Stepped {
+                    left: x,
+                    answer: Answer::Unchanged,
+                }
             }
         }
     }

@@ -116,7 +116,10 @@ fn transmit(x: Target, out: &mut [u8]) -> Stepped<Target>
     let bytes = iu(y);
     let written = frame::write(header(y, x.state == Target::AGAIN), &bytes, out);
     match written {
-        Ok(length) => Stepped { left: y, answer: Answer::Frame(length) },
+        Ok(length) => Stepped {
+            left: y,
+            answer: Answer::Frame(length),
+        },
         Err(why) => Stepped::refused(x, why),
     }
 }
@@ -133,7 +136,10 @@ pub fn write_next_frame(x: Target, out: &mut [u8]) -> Stepped<Target>
             if is_due(x) {
                 transmit(x, out)
             } else {
-                Stepped { left: x, answer: Answer::Wait }
+                Stepped {
+                    left: x,
+                    answer: Answer::Wait,
+                }
             }
         }
     }

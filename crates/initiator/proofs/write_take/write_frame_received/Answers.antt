@@ -12,7 +12,7 @@ use Rattle.status.specs.Result.{or_refusal}
 pub take-requires : goal.take-requires
 take-requires c =
     let a = c.args in
-    let p = passed a.w.sender.transfer WriteInitiator a.bytes.now _ (sym c.accept.ensures ∙ ap or_refusal c.in-Ok.is) in
+    let p = passed a.w.sender.transfer WriteInitiator a.bytes.now _ (sym c.accept.ensures ∙ ap or_refusal c.in-Ok-accept.is) in
     let o = opened _ _ (sym c.in-Ok.is ∙ c.admit.ensures) in
     (rw (← p.is) p.inside, (held a.w (sym c.writer_holds-ok.ensures ∙ o.0)).core.limits_held)
 
@@ -20,10 +20,10 @@ pub returns-in-Err : goal.returns-in-Err
 unfolding write_arrival_of
 returns-in-Err c = both c.args.w [] (rw (← c.writer_holds-ok.ensures, sym c.admit.ensures ∙ c.in-Err.is) c.refused.ensures) (arrival_counts c.args.w c.args.bytes.now)
 
-pub returns-in-Err : goal.returns-in-Err
+pub returns-in-Err-accept : goal.returns-in-Err-accept
 unfolding write_arrival_of
-returns-in-Err c = both c.args.w [] (rw (← c.writer_holds-ok.ensures, sym c.admit.ensures ∙ c.in-Ok.is, sym c.accept.ensures ∙ ap or_refusal c.in-Err.is) c.refused-in-Err.ensures) (arrival_counts c.args.w c.args.bytes.now)
+returns-in-Err-accept c = both c.args.w [] (rw (← c.writer_holds-ok.ensures, sym c.admit.ensures ∙ c.in-Ok.is, sym c.accept.ensures ∙ ap or_refusal c.in-Err-accept.is) c.refused-in-Err-accept.ensures) (arrival_counts c.args.w c.args.bytes.now)
 
-pub returns-in-Ok : goal.returns-in-Ok
+pub returns-in-Ok-accept : goal.returns-in-Ok-accept
 unfolding write_arrival_of
-returns-in-Ok c = both c.args.w [] (rw (← c.writer_holds-ok.ensures, sym c.admit.ensures ∙ c.in-Ok.is, sym c.accept.ensures ∙ ap or_refusal c.in-Ok.is) c.take.ensures) (arrival_counts c.args.w c.args.bytes.now)
+returns-in-Ok-accept c = both c.args.w [] (rw (← c.writer_holds-ok.ensures, sym c.admit.ensures ∙ c.in-Ok.is, sym c.accept.ensures ∙ ap or_refusal c.in-Ok-accept.is) c.take.ensures) (arrival_counts c.args.w c.args.bytes.now)

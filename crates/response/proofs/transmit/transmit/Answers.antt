@@ -5,7 +5,7 @@ use Rattle.response.specs.Transmit.{response_header, frame_of, sent_of}
 use Rattle.response.proofs.Due.{can_write}
 use Rattle.response.proofs.transmit.transmit.Goals as goal
 use Rattle.status.specs.Result.{or_refusal}
-use Rattle.std.specs.Prelude.{Result}
+use Rattle.std.specs.Prelude.{ℕ, Result}
 use Rattle.status.specs.declared.words.Refusal.{Refusal}
 
 -- was returns

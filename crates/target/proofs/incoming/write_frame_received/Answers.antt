@@ -26,7 +26,7 @@ pub take-requires : goal.take-requires
 take-requires c =
     let e = c in
     let o = opened _ _ (sym c.in-Ok.is ∙ e.admit.ensures) in
-    (inside (passed _ WriteTarget _ _ (sym c.accept.ensures ∙ ap or_refusal c.in-Ok.is)), sym e.lent-ok.ensures ∙ o.0, o.1)
+    (inside (passed _ WriteTarget _ _ (sym c.accept.ensures ∙ ap or_refusal c.in-Ok-accept.is)), sym e.lent-ok.ensures ∙ o.0, o.1)
 
 -- was returns
 pub returns-in-Err : goal.returns-in-Err
@@ -34,18 +34,18 @@ unfolding write_arrival_of
 returns-in-Err c = let e = c in rw (entry_is _ e.lent-ok.ensures e.admit.ensures c.in-Err.is) (c.refused.ensures, refl)
 
 -- was returns-2
-pub returns-in-Err : goal.returns-in-Err
+pub returns-in-Err-accept : goal.returns-in-Err-accept
 unfolding write_arrival_of
-returns-in-Err c =
+returns-in-Err-accept c =
     let e = c in
-    rw (entry_is _ e.lent-ok.ensures e.admit.ensures c.in-Ok.is, sym c.accept.ensures ∙ ap or_refusal c.in-Err.is) (c.refused-in-Err.ensures, refl)
+    rw (entry_is _ e.lent-ok.ensures e.admit.ensures c.in-Ok.is, sym c.accept.ensures ∙ ap or_refusal c.in-Err-accept.is) (c.refused-in-Err-accept.ensures, refl)
 
 -- was returns-3
-pub returns-in-Ok : goal.returns-in-Ok
+pub returns-in-Ok-accept : goal.returns-in-Ok-accept
 unfolding write_arrival_of
-returns-in-Ok c =
+returns-in-Ok-accept c =
     let g = c in
     let e = g in
-    let p = sym g.accept.ensures ∙ ap or_refusal c.in-Ok.is in
+    let p = sym g.accept.ensures ∙ ap or_refusal c.in-Ok-accept.is in
     let s = e.args in
     rw (entry_is _ e.lent-ok.ensures e.admit.ensures c.in-Ok.is, p) (placed-is s.x s.bytes.now s.buffer.now (passed _ WriteTarget _ _ p) c.take.ensures)

@@ -10,15 +10,15 @@ unfolding read_arrival_of read_holds_of
 returns-in-Err c = let e = c in rw (← e.holds-holds.ensures, sym e.admit.ensures ∙ c.in-Err.is) refl
 
 -- was returns-2
-pub returns-in-Err : goal.returns-in-Err
+pub returns-in-Err-accept : goal.returns-in-Err-accept
 unfolding read_arrival_of read_holds_of
-returns-in-Err c =
+returns-in-Err-accept c =
     let e = c in
-    rw (← e.holds-holds.ensures, sym e.admit.ensures ∙ c.in-Ok.is, sym c.accept.ensures ∙ ap or_refusal c.in-Err.is) refl
+    rw (← e.holds-holds.ensures, sym e.admit.ensures ∙ c.in-Ok.is, sym c.accept.ensures ∙ ap or_refusal c.in-Err-accept.is) refl
 
 -- was returns-3
-pub returns-in-Ok : goal.returns-in-Ok
+pub returns-in-Ok-accept : goal.returns-in-Ok-accept
 unfolding read_arrival_of read_holds_of
-returns-in-Ok c =
+returns-in-Ok-accept c =
     let e = c in
-    rw (← e.holds-holds.ensures, sym e.admit.ensures ∙ c.in-Ok.is, sym c.accept.ensures ∙ ap or_refusal c.in-Ok.is) refl
+    rw (← e.holds-holds.ensures, sym e.admit.ensures ∙ c.in-Ok.is, sym c.accept.ensures ∙ ap or_refusal c.in-Ok-accept.is) refl

@@ -8,7 +8,7 @@ use Rattle.target.proofs.Held.{held}
 use Rattle.target.proofs.Issue.{issued_order, writes}
 use Rattle.target.proofs.transmit.transmit.Goals as goal
 use Rattle.status.specs.Result.{or_refusal}
-use Rattle.std.specs.Prelude.{Result}
+use Rattle.std.specs.Prelude.{ℕ, Result}
 use Rattle.status.specs.declared.words.Refusal.{Refusal}
 
 -- was iu-requires
