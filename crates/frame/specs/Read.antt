@@ -1,13 +1,10 @@
 -- The frame reader: what it answers to any bytes.
 use Rattle.std.specs.Prelude.{ℕ, ◌-◌, ◌%◌, List, [], ◌∷◌, Bool, length, get_or, take, drop, leb, eqb}
 use Rattle.status.specs.Pick.{pick, all}
-use Rattle.status.specs.Number.{refusal_number}
 use Rattle.status.specs.Result.{Result}
 use Rattle.frame.specs.Format.{is_type, field, flags_of}
 use Rattle.frame.specs.declared.types.Header.{Header}
 use Rattle.frame.specs.declared.types.Parsed.{Parsed}
-use Rattle.frame.specs.declared.types.Decoded.{Decoded}
-use Rattle.frame.specs.declared.types.Decoded.TheVariants.{Frame, Refused}
 
 -- "byte 11, bits 1 and 0: number of fill bytes"
 abbrev pub fill_count : List ℕ → ℕ
@@ -38,11 +35,6 @@ iu_length b = length b - 24 - fill_count b
 
 abbrev pub iu_of : List ℕ → List ℕ
 iu_of b = take (iu_length b) (drop 24 b)
-
--- the reader's answer: a frame, or a number
-abbrev pub decoded : Decoded → Result Parsed
-decoded (Frame p) = Result.value p
-decoded (Refused why) = Result.number (refusal_number why)
 
 -- the frame that well-formed bytes are: header, and where the IU stands
 abbrev pub parsed : List ℕ → Parsed

@@ -2,13 +2,10 @@
 -- bytes 16 to 19 the sense length, 20 to 23 the response length, lists from byte 24."
 use Rattle.std.specs.Prelude.{ℕ, ◌+◌, ◌%◌, List, Bool, ◌&&◌, length, get_or, eqb, leb, ltb}
 use Rattle.status.specs.Pick.{pick}
-use Rattle.status.specs.Number.{failure_number}
 use Rattle.status.specs.Result.{Result}
 use Rattle.status.specs.declared.answer.Opened.{Opened}
 use Rattle.frame.specs.Format.{field}
 use Rattle.frame.specs.Lent.{Lent, none, part_of}
-use Rattle.frame.specs.declared.types.ResponseIu.{ResponseIu}
-use Rattle.frame.specs.declared.types.ResponseIu.TheVariants.{Taken, Failed}
 
 -- DATAPRES; the other bits of byte 10 are ignored
 abbrev pub kind_in : List ℕ → ℕ
@@ -48,11 +45,6 @@ by_kind iu =
 -- "32: under 24 bytes"; "34 ..: a failure, after 32"
 unfoldable pub response_iu_of : List ℕ → Result Opened
 response_iu_of iu = pick (ltb (length iu) 24) (Result.number 32) (by_kind iu)
-
--- the reader's answer: kind, status and bytes of sense data, or a number
-abbrev pub response_read : ResponseIu → Result Opened
-response_read (Taken o) = Result.value o
-response_read (Failed why) = Result.number (failure_number why)
 
 -- the sense data of an IU that says o: "lists from byte 24"; "for kinds 0 and 1 .. the part is empty"
 abbrev pub sense_of : Opened → List ℕ → Lent

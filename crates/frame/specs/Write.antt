@@ -1,13 +1,10 @@
 -- The frame writer: what it answers and what it leaves in the output buffer.
 use Rattle.std.specs.Prelude.{ℕ, ◌+◌, ◌^◌, List, [], ◌∷◌, ◌++◌, Bool, length, take, drop, ltb, leb}
 use Rattle.status.specs.Pick.{pick, if_any, all}
-use Rattle.status.specs.Number.{refusal_number}
 use Rattle.status.specs.Answer.{Said, view, Left, ◌saying◌}
 use Rattle.status.specs.Result.{Result}
 use Rattle.frame.specs.Format.{is_type, encode}
 use Rattle.frame.specs.declared.types.Header.{Header}
-use Rattle.frame.specs.declared.types.Written.{Written}
-use Rattle.frame.specs.declared.types.Written.TheVariants.{Frame, Refused}
 
 -- "the writer 1 (also for another type or an IU over 1,024 bytes)": a hashed address has 24 bits; request K8: TLR CONTROL is 0 to 3, "the writer refuses a larger number by 1"
 abbrev pub request : Header → ℕ → List Bool
@@ -15,11 +12,6 @@ request h n = is_type h.frametype ∷ ltb h.dest (2 ^ 24) ∷ ltb h.source (2 ^ 
 
 abbrev pub writable : Header → ℕ → Bool
 writable h n = all (request h n)
-
--- the writer's answer: the frame's length, or a number
-abbrev pub written : Written → Result ℕ
-written (Frame n) = Result.value n
-written (Refused why) = Result.number (refusal_number why)
 
 -- 1, then 3, else the frame's length
 abbrev pub write_answer : Header → List ℕ → List ℕ → Result ℕ

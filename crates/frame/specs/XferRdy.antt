@@ -1,20 +1,12 @@
 -- "An XFER_RDY IU is requested offset (4 bytes), write data length (4), reserved (4)."
 use Rattle.std.specs.Prelude.{ℕ, List, [], ◌∷◌, ◌++◌, length, ltb}
 use Rattle.status.specs.Pick.{pick}
-use Rattle.status.specs.Number.{failure_number}
 use Rattle.status.specs.Result.{Result}
 use Rattle.frame.specs.Format.{digits, field}
 use Rattle.frame.specs.declared.types.XferRdy.{XferRdy}
-use Rattle.frame.specs.declared.types.XferRdyIu.{XferRdyIu}
-use Rattle.frame.specs.declared.types.XferRdyIu.TheVariants.{Taken, Failed}
 
 unfoldable pub xfer_rdy_bytes : XferRdy → List ℕ
 xfer_rdy_bytes x = digits 4 x.offset ++ digits 4 x.len ++ (0 ∷ 0 ∷ 0 ∷ 0 ∷ [])
-
--- the reader's answer: offset and length, or a number
-abbrev pub xfer_rdy_read : XferRdyIu → Result XferRdy
-xfer_rdy_read (Taken x) = Result.value x
-xfer_rdy_read (Failed why) = Result.number (failure_number why)
 
 -- 23 and 24: "under, over 12 bytes"
 unfoldable pub xfer_rdy_of : List ℕ → Result XferRdy

@@ -1,9 +1,10 @@
 // The frame reader.
 ghost use Rattle.std.specs.Prelude.{◌≡◌, ◌≤◌, length};
-ghost use Rattle.frame.specs.Read.{fill_count, header_in, well_formed, decoded, decode};
+ghost use Rattle.status.specs.Result.{or_refusal};
+ghost use Rattle.frame.specs.Read.{fill_count, header_in, well_formed, decode};
 
 use crate::byte;
-use crate::types::{Decoded, Header, Parsed};
+use crate::types::{Header, Parsed};
 use status::Refusal;
 
 fn fill_count(b: &[u8]) -> usize
@@ -40,20 +41,18 @@ fn well_formed(b: &[u8]) -> bool
 }
 
 // Any bytes: 5, 6, else header, start and length of the IU.
-pub fn read(b: &[u8]) -> Decoded
-    ensures { decoded result ≡ decode b.now }
+pub fn read(b: &[u8]) -> Result<Parsed, Refusal>
+    ensures { or_refusal result ≡ decode b.now }
 {
     if !well_formed(b) {
-        return Decoded::Refused(Refusal::MalformedFrame);
+        return Err(Refusal::MalformedFrame);
     }
     if !byte::known(b[0]) {
-        return Decoded::Refused(Refusal::UnexpectedFrameType);
+        return Err(Refusal::UnexpectedFrameType);
     }
-    let len = b.len() - 24 - fill_count(b);
-    let header = header_of(b);
-    Decoded::Frame(Parsed {
-        header: header,
+    Ok(Parsed {
+        header: header_of(b),
         start: 24,
-        len: len,
+        len: b.len() - 24 - fill_count(b),
     })
 }

@@ -1,10 +1,11 @@
 // The frame writer: a data step and a header step.
 ghost use Rattle.std.specs.Prelude.{◌≡◌, ℕ, ◌+◌, ◌^◌, ◌≤◌, ◌<◌, List, [], ◌∷◌, length, take};
+ghost use Rattle.status.specs.Result.{or_refusal};
 ghost use Rattle.frame.specs.Format.{fill_of, header_bytes, data_bytes, encode};
-ghost use Rattle.frame.specs.Write.{writable, written, write_answer, put, placed};
+ghost use Rattle.frame.specs.Write.{writable, write_answer, put, placed};
 ghost use Rattle.frame.specs.TwoSteps.{put_data, put_header};
 
-use crate::types::{Header, Written};
+use crate::types::Header;
 use crate::{byte, words};
 use status::Refusal;
 
@@ -127,52 +128,42 @@ fn place_header(h: Header, n: usize, out: &mut [u8])
 }
 
 // 1, 3, else the frame's length, for every IU of n bytes and every output buffer of `room`.
-fn answer(h: Header, n: usize, room: usize) -> Written
-    ensures { (iu out : List ℕ) → length iu ≡ n → length out ≡ room → written result ≡ write_answer h iu out }
+fn answer(h: Header, n: usize, room: usize) -> Result<usize, Refusal>
+    ensures { (iu out : List ℕ) → length iu ≡ n → length out ≡ room → or_refusal result ≡ write_answer h iu out }
 {
     if !can_write(h, n) {
-        return Written::Refused(Refusal::BadRequest);
+        return Err(Refusal::BadRequest);
     }
     let total = 24 + n + fill_of(n);
     if room < total {
-        return Written::Refused(Refusal::FrameSpaceShort);
+        return Err(Refusal::FrameSpaceShort);
     }
-    Written::Frame(total)
+    Ok(total)
 }
 
 // The data step. 1, 3, else the frame's length; IU and fill stand in the output buffer from byte 24 on.
-pub fn write_data(h: Header, iu: &[u8], out: &mut [u8]) -> Written
-    ensures { (written result ≡ write_answer h iu.now out.old) × (out.new ≡ put_data h iu.now out.old) }
+pub fn write_data(h: Header, iu: &[u8], out: &mut [u8]) -> Result<usize, Refusal>
+    ensures { (or_refusal result ≡ write_answer h iu.now out.old) × (out.new ≡ put_data h iu.now out.old) }
 {
-    match answer(h, iu.len(), out.len()) {
-        Written::Frame(len) => {
-            place_data(iu, out);
-            Written::Frame(len)
-        }
-        Written::Refused(why) => Written::Refused(why),
-    }
+    let len = answer(h, iu.len(), out.len())?;
+    place_data(iu, out);
+    Ok(len)
 }
 
 // The header step. 1, 3 for the whole frame, else the frame's length; the header stands at the front of the output buffer.
-pub fn write_header(h: Header, iu: &[u8], out: &mut [u8]) -> Written
-    ensures { (written result ≡ write_answer h iu.now out.old) × (out.new ≡ put_header h iu.now out.old) }
+pub fn write_header(h: Header, iu: &[u8], out: &mut [u8]) -> Result<usize, Refusal>
+    ensures { (or_refusal result ≡ write_answer h iu.now out.old) × (out.new ≡ put_header h iu.now out.old) }
 {
     let n = iu.len();
-    match answer(h, n, out.len()) {
-        Written::Frame(len) => {
-            place_header(h, n, out);
-            Written::Frame(len)
-        }
-        Written::Refused(why) => Written::Refused(why),
-    }
+    let len = answer(h, n, out.len())?;
+    place_header(h, n, out);
+    Ok(len)
 }
 
 // One step after the other. 1, 3, else the frame's length; the frame stands at the front of the output buffer.
-pub fn write(h: Header, iu: &[u8], out: &mut [u8]) -> Written
-    ensures { (written result ≡ write_answer h iu.now out.old) × (out.new ≡ put (write_answer h iu.now out.old) (encode h iu.now) out.old) }
+pub fn write(h: Header, iu: &[u8], out: &mut [u8]) -> Result<usize, Refusal>
+    ensures { (or_refusal result ≡ write_answer h iu.now out.old) × (out.new ≡ put (write_answer h iu.now out.old) (encode h iu.now) out.old) }
 {
-    match write_data(h, iu, out) {
-        Written::Frame(_) => write_header(h, iu, out),
-        Written::Refused(why) => Written::Refused(why),
-    }
+    write_data(h, iu, out)?;
+    write_header(h, iu, out)
 }

@@ -18,9 +18,6 @@ pub use full::write_full;
 pub use lent::part;
 pub use plain::{is_data, transfer_tag};
 pub use response::{read_response, sense_of};
-pub use types::{
-    COMMAND, DATA, Decoded, Flags, Header, Parsed, RESPONSE, ResponseIu, TASK, Written, XFER_RDY,
-    XferRdy, XferRdyIu,
-};
+pub use types::{COMMAND, DATA, Flags, Header, Parsed, RESPONSE, TASK, XFER_RDY, XferRdy};
 pub use words::copy;
 pub use xfer_rdy::{read_xfer_rdy, write_xfer_rdy};

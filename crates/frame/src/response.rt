@@ -1,9 +1,9 @@
 // The RESPONSE's IU: DATAPRES, status, sense length and response length, then the list.
 ghost use Rattle.std.specs.Prelude.{◌≡◌, ◌≤◌, length};
+ghost use Rattle.status.specs.Result.{or_failure};
 ghost use Rattle.frame.specs.Lent.{Shows};
-ghost use Rattle.frame.specs.Response.{needing, response_fits, sense_fits, by_kind, response_iu_of, response_read, sense_of};
+ghost use Rattle.frame.specs.Response.{needing, response_fits, sense_fits, by_kind, response_iu_of, sense_of};
 
-use crate::types::ResponseIu;
 use crate::{byte, lent};
 use status::{Failure, Opened};
 
@@ -30,39 +30,39 @@ fn sense_fits(iu: &[u8]) -> bool
 }
 
 // 34, or kind, status and bytes of sense data.
-fn needing(met: bool, iu: &[u8], sense: usize) -> ResponseIu
+fn needing(met: bool, iu: &[u8], sense: usize) -> Result<Opened, Failure>
     requires { 24 ≤ length iu.now }
-    ensures { response_read result ≡ needing met iu.now sense }
+    ensures { or_failure result ≡ needing met iu.now sense }
 {
     if met {
-        return ResponseIu::Taken(Opened {
+        return Ok(Opened {
             kind: byte::low_two_bits(iu[10]),
             status: iu[11],
             sense: sense,
         });
     }
-    ResponseIu::Failed(Failure::ResponseDataWrong)
+    Err(Failure::ResponseDataWrong)
 }
 
 // By DATAPRES: no data, response data, sense data; 3 is 34.
-fn by_kind(iu: &[u8]) -> ResponseIu
+fn by_kind(iu: &[u8]) -> Result<Opened, Failure>
     requires { 24 ≤ length iu.now }
-    ensures { response_read result ≡ by_kind iu.now }
+    ensures { or_failure result ≡ by_kind iu.now }
 {
     match byte::low_two_bits(iu[10]) {
         0 => needing(iu.len() == 24, iu, 0),
         1 => needing(response_fits(iu), iu, 0),
         2 => needing(sense_fits(iu), iu, byte::be32(iu, 16) as usize),
-        _ => ResponseIu::Failed(Failure::ResponseDataWrong),
+        _ => Err(Failure::ResponseDataWrong),
     }
 }
 
 // An IU of any length, without its fill: 32, 34, else kind, status and bytes of sense data.
-pub fn read_response(iu: &[u8]) -> ResponseIu
-    ensures { response_read result ≡ response_iu_of iu.now }
+pub fn read_response(iu: &[u8]) -> Result<Opened, Failure>
+    ensures { or_failure result ≡ response_iu_of iu.now }
 {
     if iu.len() < 24 {
-        return ResponseIu::Failed(Failure::ResponseTooShort);
+        return Err(Failure::ResponseTooShort);
     }
     by_kind(iu)
 }

@@ -1,7 +1,4 @@
-// The frame types, the header of a frame, the XFER_RDY's IU, and what the writer and the readers answer (of a RESPONSE's IU: status::Opened).
-use status::{Failure, Opened, Refusal};
-
-// The five frame types.
+// The frame types, the header of a frame, a frame read, and the XFER_RDY's IU (the RESPONSE's: status::Opened).
 pub const DATA: u8 = 0x01;
 
 pub const XFER_RDY: u8 = 0x05;
@@ -39,13 +36,6 @@ pub struct Header {
     pub offset: u32,
 }
 
-#[derive(Clone, Copy)]
-pub enum Written {
-    // the frame's length
-    Frame(usize),
-    Refused(Refusal),
-}
-
 // A frame read: the IU is len bytes from start.
 #[derive(Clone, Copy)]
 pub struct Parsed {
@@ -55,27 +45,9 @@ pub struct Parsed {
 }
 
 #[derive(Clone, Copy)]
-pub enum Decoded {
-    Frame(Parsed),
-    Refused(Refusal),
-}
-
-#[derive(Clone, Copy)]
 pub struct XferRdy {
     // requested offset
     pub offset: u32,
     // write data length
     pub len: u32,
-}
-
-#[derive(Clone, Copy)]
-pub enum XferRdyIu {
-    Taken(XferRdy),
-    Failed(Failure),
-}
-
-#[derive(Clone, Copy)]
-pub enum ResponseIu {
-    Taken(Opened),
-    Failed(Failure),
 }

@@ -1,9 +1,10 @@
 // The XFER_RDY's IU: requested offset, write data length, four reserved bytes.
 ghost use Rattle.std.specs.Prelude.{◌≡◌};
-ghost use Rattle.frame.specs.XferRdy.{xfer_rdy_bytes, xfer_rdy_read, xfer_rdy_of};
+ghost use Rattle.status.specs.Result.{or_failure};
+ghost use Rattle.frame.specs.XferRdy.{xfer_rdy_bytes, xfer_rdy_of};
 
 use crate::byte;
-use crate::types::{XferRdy, XferRdyIu};
+use crate::types::XferRdy;
 use status::Failure;
 
 // The 12 bytes of an XFER_RDY's IU.
@@ -27,16 +28,16 @@ pub fn write_xfer_rdy(x: XferRdy) -> [u8; 12]
 }
 
 // An IU of any length: 23, 24, else offset and length.
-pub fn read_xfer_rdy(iu: &[u8]) -> XferRdyIu
-    ensures { xfer_rdy_read result ≡ xfer_rdy_of iu.now }
+pub fn read_xfer_rdy(iu: &[u8]) -> Result<XferRdy, Failure>
+    ensures { or_failure result ≡ xfer_rdy_of iu.now }
 {
     if iu.len() < 12 {
-        return XferRdyIu::Failed(Failure::XferRdyTooShort);
+        return Err(Failure::XferRdyTooShort);
     }
     if 12 < iu.len() {
-        return XferRdyIu::Failed(Failure::XferRdyTooLong);
+        return Err(Failure::XferRdyTooLong);
     }
-    XferRdyIu::Taken(XferRdy {
+    Ok(XferRdy {
         offset: byte::be32(iu, 0),
         len: byte::be32(iu, 4),
     })

@@ -17,4 +17,4 @@ returns-then-not-known c = search choose depth 8
 -- was returns-3
 pub returns : goal.returns
 unfolding decode
-returns c = simp (c.header_of-header.ensures, c.fill_count.ensures) (search choose depth 8)
+returns c = simp (c.header_of.ensures, c.fill_count.ensures) (search choose depth 8)
