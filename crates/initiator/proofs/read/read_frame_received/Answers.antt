@@ -6,6 +6,8 @@ use Rattle.arrival.specs.declared.Role.TheVariants.{ReadInitiator}
 use Rattle.initiator.proofs.ReadReturns.{told, taken_is}
 use Rattle.initiator.specs.Read.{read_lent_of, read_arrival_of}
 use Rattle.initiator.proofs.read.read_frame_received.Goals as goal
+use Rattle.status.specs.Number.{refusal_number}
+use Rattle.status.specs.Answer.{Said, ◌saying◌}
 use Rattle.status.specs.Result.{or_refusal}
 
 pub take-requires : goal.take-requires
@@ -21,7 +23,7 @@ returns-in-Err c = told _ _ _ (rw (← c.lent-lent.ensures, sym c.admit.ensures 
 
 pub returns-in-Err-accept : goal.returns-in-Err-accept
 unfolding read_arrival_of read_lent_of
-returns-in-Err-accept c = told _ _ _ (rw (← c.lent-lent.ensures, sym c.admit.ensures ∙ c.in-Ok.is, sym c.accept.ensures ∙ ap or_refusal c.in-Err-accept.is) refl) c.refused-in-Err-accept.ensures refl
+returns-in-Err-accept c = told {y = c.args.r saying Said.refused (refusal_number c.in-Err-accept.why)} _ _ _ (rw (← c.lent-lent.ensures, sym c.admit.ensures ∙ c.in-Ok.is, sym c.accept.ensures ∙ ap or_refusal c.in-Err-accept.is) refl) c.refused-in-Err-accept.ensures refl
 
 pub returns-in-Ok-accept : goal.returns-in-Ok-accept
 unfolding read_arrival_of read_lent_of
