@@ -13,22 +13,18 @@ use status::Stepped;
 fn read_left(y: Stepped<Sender>) -> Asked
     ensures { asked result ≡ onto sending.Read (stepped y) }
 {
-    let left = y.sender;
-    let answer = y.answer;
     Asked {
-        sending: Sending::Read(left),
-        answer: answer,
+        sending: Sending::Read(y.left),
+        answer: y.answer,
     }
 }
 
 fn write_left(y: Stepped<Writer>) -> Asked
     ensures { asked result ≡ onto sending.Write (stepped y) }
 {
-    let left = y.writer;
-    let answer = y.answer;
     Asked {
-        sending: Sending::Write(left),
-        answer: answer,
+        sending: Sending::Write(y.left),
+        answer: y.answer,
     }
 }
 
@@ -76,20 +72,16 @@ pub(crate) fn arrive(r: Receiving, frame: &[u8], buffer: &mut [u8]) -> Arrived
     match r {
         Receiving::Read(x) => {
             let y = initiator::read_frame_received(x, frame, buffer);
-            let left = y.receiver;
-            let answer = y.answer;
             Arrived {
-                receiving: Receiving::Read(left),
-                answer: answer,
+                receiving: Receiving::Read(y.left),
+                answer: y.answer,
             }
         }
         Receiving::Write(x) => {
             let y = target::write_frame_received(x, frame, buffer);
-            let left = y.target;
-            let answer = y.answer;
             Arrived {
-                receiving: Receiving::Write(left),
-                answer: answer,
+                receiving: Receiving::Write(y.left),
+                answer: y.answer,
             }
         }
     }

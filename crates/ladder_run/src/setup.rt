@@ -50,16 +50,9 @@ fn read(r: Run) -> Result<Ladder, Refusal>
 {
     let t = transfer(r, false, Ladder::TARGET, Ladder::INITIATOR);
     let u = transfer(r, false, Ladder::INITIATOR, Ladder::TARGET);
-    match target::set_up_read(t) {
-        Err(why) => Err(why),
-        Ok(s) => match initiator::set_up_read(u) {
-            Err(why) => Err(why),
-            Ok(x) => Ok(fresh(
-                Sending::Read(s),
-                Receiving::Read(x),
-            )),
-        },
-    }
+    let s = target::set_up_read(t)?;
+    let x = initiator::set_up_read(u)?;
+    Ok(fresh(Sending::Read(s), Receiving::Read(x)))
 }
 
 // The XFER_RDY of the one burst: handed out, taken, acknowledged.
@@ -68,14 +61,10 @@ fn exchange(w: Writer, y: Target) -> Ladder
 {
     let mut area = [0; 1048];
     let issued = target::write_next_frame(y, &mut area);
-    let answer = issued.answer;
-    let unanswered = issued.target;
-    let n = row::handed(answer);
+    let n = row::handed(issued.answer);
     let taken = initiator::write_frame_received(w, &area[0..n]);
-    let acked = target::write_ack_received(unanswered);
-    let s = taken.writer;
-    let x = acked.target;
-    fresh(Sending::Write(s), Receiving::Write(x))
+    let acked = target::write_ack_received(issued.left);
+    fresh(Sending::Write(taken.left), Receiving::Write(acked.left))
 }
 
 fn write(r: Run) -> Result<Ladder, Refusal>
@@ -83,13 +72,9 @@ fn write(r: Run) -> Result<Ladder, Refusal>
 {
     let t = transfer(r, true, Ladder::INITIATOR, Ladder::TARGET);
     let u = transfer(r, true, Ladder::TARGET, Ladder::INITIATOR);
-    match initiator::set_up_write(t) {
-        Err(why) => Err(why),
-        Ok(w) => match target::set_up_write(u) {
-            Err(why) => Err(why),
-            Ok(y) => Ok(exchange(w, y)),
-        },
-    }
+    let w = initiator::set_up_write(t)?;
+    let y = target::set_up_write(u)?;
+    Ok(exchange(w, y))
 }
 
 // Line one of a run file: 1, else the ladder at its start.
