@@ -22,8 +22,11 @@ abbrev pub timeout_of : Sender → Left Sender
 timeout_of s = unless (confirms_of s) s (retry_step_of s 29)
 
 -- "A cut with none changes nothing"
+abbrev pub cut_step_of : Sender → Left Sender
+cut_step_of s = pick (eqb s.unanswered 0) (s saying Said.word Word.unchanged) (retry_step_of s 30)
+
 abbrev pub cut_of : Sender → Left Sender
-cut_of s = unless (entry_of (holds_of s) s.ended) s (pick (eqb s.unanswered 0) (s saying Said.word Word.unchanged) (retry_step_of s 30))
+cut_of s = unless (entry_of (holds_of s) s.ended) s (cut_step_of s)
 
 -- "31: reported by the port layer"
 abbrev pub loss_of : Sender → Left Sender

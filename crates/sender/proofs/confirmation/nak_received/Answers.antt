@@ -1,11 +1,8 @@
 use mathlib.Core.List.{[]}
-use mathlib.Core.Path.{sym, ◌∙◌}
+use Rattle.std.proofs.Common.{rules}
+use Rattle.sender_steps.specs.Confirmation.{nak_step_of}
 use Rattle.sender.proofs.Counting.{both, nak_counts}
 use Rattle.sender.proofs.confirmation.nak_received.Goals as goal
 
--- was returns-2
-pub returns-in-Ok : goal.returns-in-Ok
-returns-in-Ok c =
-    both c.args.s []
-    (rw (sym c.confirmable.ensures ∙ c.in-Ok.is) c.nak_step.ensures)
-    (nak_counts c.args.s)
+pub returns : goal.returns
+returns c = both c.args.s [] (rw c.confirmable.ensures at (c.unless.ensures (nak_step_of c.args.s) (λ r p. search rules))) (nak_counts c.args.s)
