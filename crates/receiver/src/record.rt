@@ -24,9 +24,6 @@ pub fn set_up_read(t: Transfer) -> Result<Receiver, Refusal>
 pub fn nexus_lost(r: Receiver) -> Stepped<Receiver>
     ensures { stepped result ≡ loss_of r }
 {
-    let ok = receiver_steps::holds(r);
-    match status::admit(ok, r.ended) {
-        Err(why) => Stepped::refused(r, why),
-        Ok(()) => receiver_steps::failed(r, Failure::NexusLoss),
-    }
+    let entry = status::admit(receiver_steps::holds(r), r.ended);
+    Stepped::unless(entry, r, |r| receiver_steps::failed(r, Failure::NexusLoss))
 }
