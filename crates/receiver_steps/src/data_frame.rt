@@ -9,6 +9,7 @@ use crate::types::{DataDisposition, Receiver};
 use status::{Answer, Failure, Refusal, Stepped};
 
 // Number 20.
+#[tactic(auto, unfolding(crate::specs::DataFrame::misplaced, status::specs::Pick::pick))]
 fn is_misplaced(r: Receiver, offset: u32, cdp: bool) -> bool
     ensures { result ≡ misplaced r offset cdp }
 {
@@ -22,6 +23,7 @@ fn is_misplaced(r: Receiver, offset: u32, cdp: bool) -> bool
 }
 
 // Retries on, CDP zero: waiting, or another than the expected offset.
+#[tactic(auto, unfolding(crate::specs::DataFrame::out_of_step))]
 fn is_out_of_step(r: Receiver, offset: u32, cdp: bool) -> bool
     ensures { result ≡ out_of_step r offset cdp }
 {
@@ -29,6 +31,7 @@ fn is_out_of_step(r: Receiver, offset: u32, cdp: bool) -> bool
     (0 < t.limit) & !cdp & (r.waiting | (offset != r.expected))
 }
 
+#[tactic(auto, unfolding(crate::specs::DataFrame::disposition_of, status::specs::Pick::pick))]
 fn judge(r: Receiver, offset: u32, cdp: bool, n: usize) -> Result<DataDisposition, Failure>
     requires { offset + n < 2 ^ 64 }
     ensures { result ≡ disposition_of r offset cdp n }
@@ -52,6 +55,7 @@ fn judge(r: Receiver, offset: u32, cdp: bool, n: usize) -> Result<DataDispositio
 }
 
 // The record once n bytes are stored at offset.
+#[tactic(auto, unfolding(status::specs::Pick::pick))]
 fn stored(mut r: Receiver, offset: u32, n: u32) -> Stepped<Receiver>
     requires { offset + n < 2 ^ 32 }
     ensures { stepped result ≡ stored_by r offset n }

@@ -9,6 +9,7 @@ use status::{Answer, Failure, Refusal, Stepped};
 use transfer::Transfer;
 
 // Number 1 does not apply: limits and marks are in order.
+#[tactic(auto, unfolding(crate::specs::Record::holds_of, crate::specs::Record::tests))]
 pub fn holds(r: Receiver) -> bool
     ensures { result ≡ holds_of r }
 {
@@ -24,6 +25,7 @@ pub fn holds(r: Receiver) -> bool
 }
 
 // A write's buffer has the byte count. A read's reaches at least to start plus count.
+#[tactic(auto, unfolding(crate::specs::Record::right_length, status::specs::Pick::pick))]
 fn right_length(t: Transfer, n: usize) -> bool
     ensures { result ≡ right_length t n }
 {
@@ -33,6 +35,7 @@ fn right_length(t: Transfer, n: usize) -> bool
 }
 
 // Number 1 does not apply, the data buffer's length included.
+#[tactic(auto, unfolding(crate::specs::Record::lent_of))]
 pub fn lent(r: Receiver, n: usize) -> bool
     ensures { result ≡ lent_of r n }
 {

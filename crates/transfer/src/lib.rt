@@ -67,6 +67,7 @@ impl Transfer {
     }
 
     // The limits are the record's own: each port tests them at every call.
+    #[tactic(auto, unfolding(crate::specs::Limits::limits, crate::specs::Limits::limits_hold))]
     pub fn limits_hold(self) -> bool
         ensures { result ≡ limits_hold self }
     {
@@ -89,6 +90,7 @@ impl Transfer {
     }
 
     // 1, else a transfer within the limits. A read is one burst and does not use `burst`, which keeps its limits all the same.
+    #[tactic(auto, unfolding(status::specs::Result::granted, status::specs::Pick::pick))]
     pub fn new(
         write: bool,
         count: u32,

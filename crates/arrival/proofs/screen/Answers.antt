@@ -5,20 +5,16 @@ use Rattle.status.proofs.Choose.{in_true, in_false}
 use Rattle.arrival.specs.Accept.{screen_of}
 use Rattle.arrival.proofs.screen.Goals as goal
 
--- was returns
-
 pub returns-then-not-is_taken : goal.returns-then-not-is_taken
 unfolding screen_of
 returns-then-not-is_taken c = rw (← c.is_taken.ensures) (in_true _ _ _ _ (ap not c.if-not-is_taken.true) refl)
 
--- was returns-2
 pub returns-then-h-t : goal.returns-then-h-t
 unfolding screen_of
 returns-then-h-t c =
     let b = c in
     rw (← b.is_taken.ensures) (in_false _ _ _ _ (ap not c.if-not-is_taken.false) (in_true _ _ _ _ c.if-h-t.true refl))
 
--- was returns-3
 pub returns-then-h-t-2 : goal.returns-then-h-t-2
 unfolding screen_of
 returns-then-h-t-2 c =
@@ -26,7 +22,6 @@ returns-then-h-t-2 c =
     let b = d in
     rw (← b.is_taken.ensures) (in_false _ _ _ _ (ap not c.if-not-is_taken.false) (in_false _ _ _ _ c.if-h-t.false (in_true _ _ _ _ (rw (ne_eqb _ _ c.if-h-t-2.true) refl) refl)))
 
--- was returns-4
 pub returns : goal.returns
 unfolding screen_of
 returns c =

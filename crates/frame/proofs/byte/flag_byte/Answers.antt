@@ -4,8 +4,6 @@ use Rattle.frame.specs.Format.{flag_byte}
 use Rattle.frame.proofs.Bits.{built}
 use Rattle.frame.proofs.byte.flag_byte.Goals as goal
 
--- was returns
-
 pub returns : goal.returns
 unfolding flag_byte
 returns c =

@@ -1,8 +1,6 @@
 use Rattle.frame.specs.Read.{header_in}
 use Rattle.frame.proofs.decode.header_of.Goals as goal
 
--- was returns
-
 pub returns : goal.returns
 unfolding header_in
 returns c =

@@ -4,17 +4,14 @@ use Rattle.frame.proofs.decode.read.Goals as goal
 
 -- The tests choose the case of `decode`; a well-formed frame has a header and room for its fill.
 
--- was returns
 pub returns-then-not-well_formed : goal.returns-then-not-well_formed
 unfolding decode
 returns-then-not-well_formed c = search choose
 
--- was returns-2
 pub returns-then-not-known : goal.returns-then-not-known
 unfolding decode
 returns-then-not-known c = search choose depth 8
 
--- was returns-3
 pub returns : goal.returns
 unfolding decode
 returns c = simp (c.header_of.ensures, c.fill_count.ensures) (search choose depth 8)

@@ -7,7 +7,6 @@ use Rattle.frame.specs.Write.{placed}
 use Rattle.frame.proofs.Place.{none_placed}
 use Rattle.frame.proofs.encode.clear.Goals as goal
 
--- was returns-4
 pub returns : goal.returns
 returns c =
     let none : 0 ≡ c.args.n = omega (arith, c.if-n-eq1.false, c.if-n-eq2.false, c.if-n-eq3.false) in

@@ -4,15 +4,12 @@ use Rattle.frame.proofs.encode.place_data.Goals as goal
 
 -- IU and fill go down one after the other; the first place leaves the buffer as long as it was.
 
--- was place-requires
 pub place-requires : goal.place-requires
 place-requires c = omega (arith, data_length c.args.iu.now)
 
--- was clear-requires
 pub clear-requires : goal.clear-requires
 clear-requires c = (omega arith, omega (arith, data_length c.args.iu.now, c.place.auto))
 
--- was returns
 pub returns : goal.returns
 returns c =
     let a = c.args in

@@ -5,16 +5,12 @@ use native.Mathlib.Omega.{arith}
 use Rattle.frame.proofs.Parts.{too_far, whole_part}
 use Rattle.frame.proofs.lent.part.Goals as goal
 
--- was returns
-
 pub returns-then-b-i : goal.returns-then-b-i
 returns-then-b-i c = let a = c.args in rw (too_far a.b.now a.i a.n (omega arith)) (refl, refl, search rules)
 
--- was returns-2
 pub returns-then-b-i-2 : goal.returns-then-b-i-2
 returns-then-b-i-2 c = let a = c.args in rw (too_far a.b.now a.i a.n (omega arith)) (refl, refl, search rules)
 
--- was returns-3
 pub returns : goal.returns
 returns c =
     let a = c.args in

@@ -25,10 +25,8 @@ its-length : (iu : List ℕ) (n : ℕ) → n ≡ sense_length iu → length iu �
 unfolding sense_fits
 its-length iu n e h = rw (← e) (and_last (leb 1 n && leb n 1_000) (eqb (length iu) (24 + n)) (eq-eqb _ _ h))
 
--- was returns
 pub returns-then-iu-past : goal.returns-then-iu-past
 returns-then-iu-past c = another-length _ _ c.be32-n.ensures (λ e. omega arith)
 
--- was returns-2
 pub returns : goal.returns
 returns c = its-length _ _ c.be32-n.ensures (omega arith)

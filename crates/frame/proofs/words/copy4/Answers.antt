@@ -3,8 +3,6 @@ use Rattle.frame.specs.RoundTrip.{Bytes}
 use Rattle.frame.proofs.Pieces.{word_first}
 use Rattle.frame.proofs.words.copy4.Goals as goal
 
--- was returns
-
 pub returns : goal.returns
 returns c =
     let p1 = c in

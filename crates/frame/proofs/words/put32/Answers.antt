@@ -5,8 +5,6 @@ use Rattle.frame.specs.Words.{little}
 use Rattle.frame.proofs.Little.{stored}
 use Rattle.frame.proofs.words.put32.Goals as goal
 
--- was returns
-
 pub returns : goal.returns
 unfolding little
 returns c =

@@ -4,8 +4,6 @@ use native.Mathlib.Omega.{arith}
 use Rattle.frame.specs.Words.{word}
 use Rattle.frame.proofs.words.swap32.Goals as goal
 
--- was returns
-
 pub returns : goal.returns
 unfolding word
 returns c =

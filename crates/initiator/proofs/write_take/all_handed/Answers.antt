@@ -1,11 +1,8 @@
 use Rattle.status.proofs.Choose.{choose}
 use Rattle.initiator.proofs.write_take.all_handed.Goals as goal
 
--- was returns
-
 pub returns-then-w : goal.returns-then-w
 returns-then-w c = search choose
 
--- was returns-2
 pub returns-else-w : goal.returns-else-w
 returns-else-w c = search choose

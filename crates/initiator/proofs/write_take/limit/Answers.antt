@@ -1,11 +1,8 @@
 use Rattle.status.proofs.Choose.{choose}
 use Rattle.initiator.proofs.write_take.limit.Goals as goal
 
--- was returns
-
 pub returns-then-retry : goal.returns-then-retry
 returns-then-retry c = search choose
 
--- was returns-2
 pub returns-else-retry : goal.returns-else-retry
 returns-else-retry c = search choose

@@ -5,11 +5,8 @@ use Rattle.ladder_run.specs.Round.{noted_of}
 use Rattle.ladder_run.specs.declared.types.Sending.{Sending}
 use Rattle.ladder_run.proofs.round.time_out.Goals as goal
 
--- was returns
-
 pub returns-then-x : goal.returns-then-x
 returns-then-x c = in_true _ _ _ _ c.if-x.true (c.note.ensures ∙ ap (λ (v : Left Sending). noted_of c.args.x v) c.timeout.ensures)
 
--- was returns-2
 pub returns : goal.returns
 returns c = in_false _ _ _ _ c.if-x.false refl

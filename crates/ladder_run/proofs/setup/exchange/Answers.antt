@@ -12,6 +12,5 @@ slice_bounds-write_frame_received-end c =
     let most = issued_most c.args.y (c.handed-n.ensures ∙ ap (λ (x : Left Target). handed x.says) c.write_next_frame-issued.ensures.0) in
     search rules
 
--- was returns
 pub returns : goal.returns
 returns c = exchange_is c.args.w c.args.y c.write_next_frame-issued.result c.write_frame_received-taken.result c.write_ack_received-acked.result c.write_next_frame-issued.ensures.0 c.write_next_frame-issued.ensures.1 c.handed-n.ensures c.write_frame_received-taken.ensures.0 c.write_ack_received-acked.ensures c.fresh.ensures

@@ -5,18 +5,14 @@ use Rattle.ladder_text.specs.declared.types.Direction.{Direction}
 use Rattle.ladder_run.specs.Setup.{ready_set_up, set_up_of}
 use Rattle.ladder_run.proofs.setup.set_up.Goals as goal
 
--- was returns
-
 pub returns-then-r-gt-COUNT_MOST : goal.returns-then-r-gt-COUNT_MOST
 unfolding set_up_of
 returns-then-r-gt-COUNT_MOST c = in_false _ _ _ _ (lt-leb _ _ c.if-r-gt-COUNT_MOST.true) refl
 
--- was returns-2
 pub returns-in-Read : goal.returns-in-Read
 unfolding set_up_of
 returns-in-Read c = in_true _ _ _ _ (le-leb _ _ c.if-r-gt-COUNT_MOST.false) (c.read.ensures ∙ ap (λ (d : Direction). ready_set_up d c.args.r) (sym c.in-Read.is))
 
--- was returns-3
 pub returns-in-Write : goal.returns-in-Write
 unfolding set_up_of
 returns-in-Write c = in_true _ _ _ _ (le-leb _ _ c.if-r-gt-COUNT_MOST.false) (c.write.ensures ∙ ap (λ (d : Direction). ready_set_up d c.args.r) (sym c.in-Write.is))

@@ -6,12 +6,10 @@ use Rattle.receiver_steps.proofs.data_frame.data_step.Goals as goal
 
 -- 1 where the burst passes the buffer; else `take` does it.
 
--- was returns
 pub returns-then-buffer-r : goal.returns-then-buffer-r
 unfolding data_step_of pick
 returns-then-buffer-r c = rw (lt-leb _ _ c.if-buffer-r.true) (c.refused.ensures, refl)
 
--- was returns-2
 pub returns : goal.returns
 unfolding data_step_of pick
 returns c = rw (le-leb _ _ c.if-buffer-r.false) c.take.ensures

@@ -6,24 +6,19 @@ use Rattle.frame.proofs.Hands.{told}
 use Rattle.response.specs.Transmit.{next_of}
 use Rattle.response.proofs.transmit.next_frame.Goals as goal
 
--- was transmit-requires
-
 pub transmit-requires : goal.transmit-requires
 transmit-requires c =
     let o = opened _ _ (sym c.in-Ok.is ∙ c.admit.ensures) in
     sym c.lent-ok.ensures ∙ o.0
 
--- was returns
 pub returns-in-Err : goal.returns-in-Err
 unfolding next_of
 returns-in-Err c = let e = c in rw (entry_is _ e.lent-ok.ensures e.admit.ensures c.in-Err.is) (c.refused.ensures, refl)
 
--- was returns-2
 pub returns-then-x : goal.returns-then-x
 unfolding next_of pick
 returns-then-x c = let e = c in rw (entry_is _ e.lent-ok.ensures e.admit.ensures c.in-Ok.is, c.if-x.true) (refl, refl)
 
--- was returns-3
 pub returns-else-x : goal.returns-else-x
 unfolding next_of
 returns-else-x c =

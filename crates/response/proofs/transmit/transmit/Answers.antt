@@ -8,8 +8,6 @@ use Rattle.status.specs.Result.{or_refusal}
 use Rattle.std.specs.Prelude.{ℕ, Result}
 use Rattle.status.specs.declared.words.Refusal.{Refusal}
 
--- was returns
-
 pub returns-in-Ok : goal.returns-in-Ok
 unfolding frame_of
 returns-in-Ok c =
@@ -18,7 +16,6 @@ returns-in-Ok c =
     handed x (sent_of x) (response_header x) s.args.iu.now s.args.out.now (can_write x s.args.iu.now s.requires)
     (rw c.sent.ensures (ap (λ (w : Result ℕ Refusal). answered x (sent_of x) (or_refusal w)) (sym c.in-Ok.is))) c.header.ensures refl c.write-written.ensures
 
--- was returns-2
 pub returns-in-Err : goal.returns-in-Err
 unfolding frame_of
 returns-in-Err c =

@@ -12,12 +12,10 @@ overflow_cast-end c =
     let h = each (set_up_tests c.args.t) (rw c.limits_hold-limits.ensures at c.if-limits-t.true) in
     omega (arith, c.past-end.ensures, (bounds _ h.0).past_most)
 
--- was returns
 pub returns-then-limits-t : goal.returns-then-limits-t
 unfolding granted
 returns-then-limits-t c = in_true _ _ _ _ (rw c.limits_hold-limits.ensures at c.if-limits-t.true) (ap (λ (s : Sender). Result.value s) (rw (← c.past-end.ensures) c.begin.ensures))
 
--- was returns-2
 pub returns-else-limits-t : goal.returns-else-limits-t
 unfolding granted
 returns-else-limits-t c = in_false _ _ _ _ (rw c.limits_hold-limits.ensures at c.if-limits-t.false) refl

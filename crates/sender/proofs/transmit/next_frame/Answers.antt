@@ -4,15 +4,12 @@ use Rattle.sender.proofs.Steps.{next_step}
 use Rattle.sender.proofs.Next.{next_closed, told}
 use Rattle.sender.proofs.transmit.next_frame.Goals as goal
 
--- was returns
-
 pub returns-in-Err : goal.returns-in-Err
 returns-in-Err c =
     let e = c in
     let a = c.args in
     told a.s a.buffer.now a.out.now _ _ _ (next_closed a.s _ _ _ (entry_is _ e.lent-ok.ensures e.admit.ensures c.in-Err.is)) c.refused.ensures refl
 
--- was returns-2
 pub returns-in-Ok : goal.returns-in-Ok
 returns-in-Ok c =
     let e = c in

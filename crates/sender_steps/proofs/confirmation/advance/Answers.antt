@@ -2,13 +2,10 @@ use Rattle.status.proofs.Choose.{choose}
 use Rattle.sender_steps.specs.Confirmation.{advance_of}
 use Rattle.sender_steps.proofs.confirmation.advance.Goals as goal
 
--- was returns
-
 pub returns-then-s-b : goal.returns-then-s-b
 unfolding advance_of
 returns-then-s-b c = simp c.moved-m.ensures (search choose)
 
--- was returns-2
 pub returns : goal.returns
 unfolding advance_of
 returns c = simp c.moved-m.ensures (search choose)

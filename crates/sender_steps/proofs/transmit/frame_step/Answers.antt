@@ -6,7 +6,6 @@ use Rattle.status.proofs.Choose.{choose}
 use Rattle.sender_steps.specs.Transmit.{waits_of, fits_of, frame_step_of}
 use Rattle.sender_steps.proofs.transmit.frame_step.Goals as goal
 
--- was returns
 pub returns-then-not-fits : goal.returns-then-not-fits
 unfolding frame_step_of pick
 returns-then-not-fits c =
@@ -14,7 +13,6 @@ returns-then-not-fits c =
     let f : fits_of a.s (length a.buffer.now) ≡ false = search choose in
     rw f (c.refused.ensures, refl)
 
--- was returns-2
 pub returns-then-waits : goal.returns-then-waits
 unfolding frame_step_of pick
 returns-then-waits c =
@@ -23,7 +21,6 @@ returns-then-waits c =
     let w : waits_of a.s ≡ true = search choose in
     rw (f, w) (refl, refl)
 
--- was returns-3
 pub returns-else-waits : goal.returns-else-waits
 unfolding frame_step_of pick
 returns-else-waits c =

@@ -32,14 +32,12 @@ slice_bounds-write-end c =
     let f = fits _ _ c.requires.0 in
     omega (arith, f.next_least, f.next_most, f.end_most, c.data_length-n.ensures)
 
--- was sent-requires
 pub sent-s-requires : goal.sent-s-requires
 sent-s-requires c =
     let p = c.requires in
     let f = fits _ _ p.0 in
     (f.next_most, (due _ p.1).window, f.frames_most, c.data_length-n.ensures)
 
--- was returns
 pub returns-in-Ok : goal.returns-in-Ok
 unfolding frame_of
 returns-in-Ok c =

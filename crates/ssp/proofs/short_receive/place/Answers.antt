@@ -4,8 +4,6 @@ use lib.ListN.{length}
 use Rattle.frame.proofs.Place.{copied_over}
 use Rattle.ssp.proofs.short_receive.place.Goals as goal
 
--- was returns
-
 pub returns : goal.returns
 returns c =
     let a = c.args in

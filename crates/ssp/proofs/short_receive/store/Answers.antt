@@ -8,8 +8,6 @@ use Rattle.frame.specs.Write.{placed}
 use Rattle.ssp.specs.ShortReceive.{stored_told}
 use Rattle.ssp.proofs.short_receive.store.Goals as goal
 
--- was returns
-
 pub returns-then-past-r : goal.returns-then-past-r
 unfolding stored_told
 returns-then-past-r c =
@@ -17,7 +15,6 @@ returns-then-past-r c =
     let b = a.bytes.now in
     (search choose, c.place.ensures ∙ ap (placed a.buffer.now a.r.expected) (take_all (length b - 24) (drop 24 b) (omega (arith, length-drop 24 b))))
 
--- was returns-2
 pub returns : goal.returns
 unfolding stored_told
 returns c =

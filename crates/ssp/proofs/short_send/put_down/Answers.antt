@@ -8,7 +8,6 @@ overflow_sub-from c = omega (arith, (fitting _ _ _ c.requires).start)
 pub slice_bounds-write_full-end : goal.slice_bounds-write_full-end
 slice_bounds-write_full-end c = omega (arith, (fitting _ _ _ c.requires).within)
 
--- was returns
 pub returns : goal.returns
 returns c =
     let s = c in

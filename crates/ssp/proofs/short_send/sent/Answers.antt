@@ -6,6 +6,5 @@ use Rattle.ssp.proofs.short_send.sent.Goals as goal
 pub overflow_add-s-3 : goal.overflow_add-s-3
 overflow_add-s-3 c = omega (arith, (held _ c.requires.2).marks.frames_most)
 
--- was returns
 pub returns : goal.returns
 returns c = sent_is _ (sized _ c.requires)

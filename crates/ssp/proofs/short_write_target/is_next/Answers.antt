@@ -2,7 +2,6 @@ use borrow.Author.Tests.{not-false}
 use Rattle.ssp.proofs.TargetCases.{tag_is}
 use Rattle.ssp.proofs.short_write_target.is_next.Goals as goal
 
--- was returns-7
 pub returns : goal.returns
 returns c = λ e.
     let n = c.is_next.ensures c.if-not-is_next.false in

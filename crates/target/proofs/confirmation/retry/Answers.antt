@@ -2,13 +2,10 @@ use Rattle.status.proofs.Choose.{choose}
 use Rattle.target.specs.Confirmation.{retry_of}
 use Rattle.target.proofs.confirmation.retry.Goals as goal
 
--- was returns
-
 pub returns-then-x-limit : goal.returns-then-x-limit
 unfolding retry_of
 returns-then-x-limit c = search choose
 
--- was returns-2
 pub returns-else-x-limit : goal.returns-else-x-limit
 unfolding retry_of
 returns-else-x-limit c = simp c.failed.ensures (search choose)

@@ -6,8 +6,6 @@ use Rattle.sender_steps.specs.declared.types.Sender.{Sender}
 use Rattle.target.proofs.ReadSteps.{only_write, only_read_lem}
 use Rattle.target.proofs.read_send.read_next_frame.Goals as goal
 
--- was returns
-
 pub returns-then-is_write : goal.returns-then-is_write
 returns-then-is_write c =
     let a = c.args in
@@ -15,7 +13,6 @@ returns-then-is_write c =
     let g = c.bad_request.ensures in
     (g.0 ∙ sym e, ap (λ (x : Left Sender). handing x.says (frame_of a.s a.buffer.now) a.out.now) (sym e), g.1 _)
 
--- was returns-2
 pub returns-else-is_write : goal.returns-else-is_write
 returns-else-is_write c =
     let a = c.args in

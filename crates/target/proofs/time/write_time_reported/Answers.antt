@@ -4,20 +4,16 @@ use Rattle.status.proofs.OpenedCall.{entry_is}
 use Rattle.target.specs.Time.{time_of}
 use Rattle.target.proofs.time.write_time_reported.Goals as goal
 
--- was returns
-
 pub returns-in-Err : goal.returns-in-Err
 unfolding time_of
 returns-in-Err c = let e = c in rw (entry_is _ e.holds-ok.ensures e.admit.ensures c.in-Err.is) c.refused.ensures
 
--- was returns-2
 pub returns-then-runs : goal.returns-then-runs
 unfolding time_of
 returns-then-runs c =
     let e = c in
     rw (entry_is _ e.holds-ok.ensures e.admit.ensures c.in-Ok.is) (in_true _ _ _ _ (sym c.runs.ensures ∙ c.if-runs.true) c.elapse.ensures)
 
--- was returns-3
 pub returns-else-runs : goal.returns-else-runs
 unfolding time_of
 returns-else-runs c =

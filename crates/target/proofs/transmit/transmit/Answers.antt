@@ -11,12 +11,9 @@ use Rattle.status.specs.Result.{or_refusal}
 use Rattle.std.specs.Prelude.{ℕ, Result}
 use Rattle.status.specs.declared.words.Refusal.{Refusal}
 
--- was iu-requires
-
 pub iu-bytes-requires : goal.iu-bytes-requires
 iu-bytes-requires c = rw c.issue-y.ensures (issued_order _ (held _ c.requires)).0
 
--- was returns
 pub returns-in-Ok : goal.returns-in-Ok
 unfolding frame_of
 returns-in-Ok c =
@@ -27,7 +24,6 @@ returns-in-Ok c =
     handed x (issued_of x) (xfer_rdy_header (issued_of x) (eqb x.state AGAIN)) (xfer_rdy_iu (issued_of x)) s.args.out.now (writes x (held _ s.requires))
     (rw y (ap (λ (w : Result ℕ Refusal). answered x (issued_of x) (or_refusal w)) (sym c.in-Ok.is))) (rw y at h.header.ensures) (rw y at h.iu-bytes.ensures) c.write-written.ensures
 
--- was returns-2
 pub returns-in-Err : goal.returns-in-Err
 unfolding frame_of
 returns-in-Err c =
