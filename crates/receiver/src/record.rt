@@ -12,8 +12,7 @@ use transfer::Transfer;
 pub fn set_up_read(t: Transfer) -> Result<Receiver, Refusal>
     ensures { or_refusal result ≡ set_up_read_of t }
 {
-    let limits = t.limits_hold();
-    if limits & !t.write {
+    if t.limits_hold() & !t.write {
         Ok(receiver_steps::begin(t, t.start, t.past() as u32))
     } else {
         Err(Refusal::BadRequest)

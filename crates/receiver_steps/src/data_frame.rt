@@ -13,9 +13,8 @@ use status::{Answer, Failure, Refusal, Stepped};
 fn is_misplaced(r: Receiver, offset: u32, cdp: bool) -> bool
     ensures { result ≡ misplaced r offset cdp }
 {
-    let t = r.transfer;
     let outside = (offset < r.base) | (r.end <= offset);
-    if t.limit == 0 {
+    if r.transfer.limit == 0 {
         outside | (offset != r.expected)
     } else {
         outside | (cdp & (r.filled < offset))
@@ -27,8 +26,7 @@ fn is_misplaced(r: Receiver, offset: u32, cdp: bool) -> bool
 fn is_out_of_step(r: Receiver, offset: u32, cdp: bool) -> bool
     ensures { result ≡ out_of_step r offset cdp }
 {
-    let t = r.transfer;
-    (0 < t.limit) & !cdp & (r.waiting | (offset != r.expected))
+    (0 < r.transfer.limit) & !cdp & (r.waiting | (offset != r.expected))
 }
 
 #[tactic(auto, unfolding(crate::specs::DataFrame::disposition_of, status::specs::Pick::pick))]
@@ -96,14 +94,10 @@ fn take(r: Receiver, offset: u32, cdp: bool, iu: &[u8], buffer: &mut [u8]) -> St
             left: r,
             answer: Answer::Discarded,
         },
-        Ok(DataDisposition::Skip) => {
-            let mut w = r;
-            w.waiting = true;
-            Stepped {
-                left: w,
-                answer: Answer::Discarded,
-            }
-        }
+        Ok(DataDisposition::Skip) => Stepped {
+            left: Receiver { waiting: true, ..r },
+            answer: Answer::Discarded,
+        },
         Err(why) => record::failed(r, why),
         Ok(DataDisposition::Store) => {
             store(offset as usize, iu, buffer);

@@ -14,14 +14,12 @@ pub fn holds(r: Receiver) -> bool
     ensures { result ≡ holds_of r }
 {
     let t = r.transfer;
-    let limits = t.limits_hold();
-    let past = t.past();
-    limits
+    t.limits_hold()
         & (t.start <= r.base)
         & (r.base <= r.expected)
         & (r.expected <= r.filled)
         & (r.filled <= r.end)
-        & ((r.end as usize) <= past)
+        & ((r.end as usize) <= t.past())
 }
 
 // A write's buffer has the byte count. A read's reaches at least to start plus count.
@@ -29,9 +27,11 @@ pub fn holds(r: Receiver) -> bool
 fn right_length(t: Transfer, n: usize) -> bool
     ensures { result ≡ right_length t n }
 {
-    let count = t.count as usize;
-    let past = t.past();
-    if t.write { n == count } else { past <= n }
+    if t.write {
+        n == t.count as usize
+    } else {
+        t.past() <= n
+    }
 }
 
 // Number 1 does not apply, the data buffer's length included.
@@ -39,9 +39,7 @@ fn right_length(t: Transfer, n: usize) -> bool
 pub fn lent(r: Receiver, n: usize) -> bool
     ensures { result ≡ lent_of r n }
 {
-    let holds = holds(r);
-    let right = right_length(r.transfer, n);
-    holds & right
+    holds(r) & right_length(r.transfer, n)
 }
 
 // A burst of which nothing is stored yet; whether it is in order is tested at the first call.
@@ -50,8 +48,8 @@ pub fn begin(t: Transfer, base: u32, end: u32) -> Receiver
 {
     Receiver {
         transfer: t,
-        base: base,
-        end: end,
+        base,
+        end,
         expected: base,
         filled: base,
         waiting: false,

@@ -71,7 +71,6 @@ impl Transfer {
     pub fn limits_hold(self) -> bool
         ensures { result ≡ limits_hold self }
     {
-        let past = self.past();
         (Transfer::COUNT_LEAST <= self.count)
             & (self.count <= Transfer::COUNT_MOST)
             & (Transfer::SIZE_LEAST <= self.size)
@@ -85,7 +84,7 @@ impl Transfer {
             & (self.local <= Transfer::ADDRESS_MOST)
             & (self.remote <= Transfer::ADDRESS_MOST)
             & (self.sas2 | (self.value == 0))
-            & (past <= Transfer::PAST_MOST)
+            & (self.past() <= Transfer::PAST_MOST)
             & (!self.write | (self.start == 0))
     }
 
