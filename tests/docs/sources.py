@@ -50,7 +50,7 @@ def functions(root, crate):
                 names.update(name for name in shown if name[0].islower())
         owner = ""
         for line in text(path).split("\n"):
-            impl = re.match(r"impl (\w+)", line)
+            impl = re.match(r"impl(?:<[^>]*>)? (\w+)", line)
             owner = impl[1] + "::" if impl else "" if line.startswith("}") else owner
             made = re.match(r'\s*pub (extern "C" )?fn (\w+)', line)
             if made and (owner or made[1] or path.stem == "lib"):
