@@ -12,8 +12,6 @@ use Rattle.target.specs.Arrival.{lifted_of, is_current, taken_of}
 use Rattle.target.proofs.Held.{core_lent}
 use Rattle.target.proofs.incoming.take.Goals as goal
 
--- was returns
-
 pub returns-then-not-is_current : goal.returns-then-not-is_current
 unfolding taken_of pick
 returns-then-not-is_current c =
@@ -21,7 +19,6 @@ returns-then-not-is_current c =
     let i : is_current s.x s.a.header ≡ false = search choose in
     rw i (c.refused.ensures, refl)
 
--- was returns-2
 pub returns-then-x-ne-READY : goal.returns-then-x-ne-READY
 unfolding taken_of pick
 returns-then-x-ne-READY c =
@@ -30,7 +27,6 @@ returns-then-x-ne-READY c =
     let e = ne_eqb s.x.state READY (λ z. omega (arith, c.if-x-ne-READY.true)) in
     rw (i, e) (refl, refl)
 
--- was returns-3
 pub returns : goal.returns
 unfolding taken_of pick
 returns c =

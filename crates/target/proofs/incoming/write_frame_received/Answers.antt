@@ -2,7 +2,7 @@ use Prim.Native.Nat.{ℕ, ◌+◌, ◌≤◌}
 use mathlib.Core.List.{List}
 use mathlib.Core.Path.{◌≡◌, refl, sym, ap, ◌∙◌}
 use lib.ListN.{length, take, drop}
-use Rattle.status.proofs.OpenedCall.{opened, entry_is}
+use Rattle.status.proofs.OpenedCall.{opened}
 use Rattle.status.specs.Answer.{Left}
 use Rattle.frame.specs.Read.{header_in, iu_of}
 use Rattle.arrival.specs.declared.Role.TheVariants.{WriteTarget}
@@ -21,31 +21,22 @@ inside p = rw (sym p.is) p.inside
 placed-is : (x : Target) (f d : List ℕ) {a : Arrived} {y : Left Target} {left : List ℕ} → Passed WriteTarget f a → (y ≡ taken_of x a (length d)) × (left ≡ storing (taken_of x a (length d)).says a.header.offset (take a.len (drop a.start f)) d) → (y ≡ taken_of x a (length d)) × (left ≡ storing (taken_of x a (length d)).says (header_in f).offset (iu_of f) d)
 placed-is x f d {a} p t = (t.0, t.1 ∙ ap (λ (b : Arrived). storing (taken_of x a (length d)).says b.header.offset (take b.len (drop b.start f)) d) (sym p.is))
 
--- was take-requires
 pub take-requires : goal.take-requires
 take-requires c =
-    let e = c in
-    let o = opened _ _ (sym c.in-Ok.is ∙ e.admit.ensures) in
-    (inside (passed _ WriteTarget _ _ (sym c.accept.ensures ∙ ap or_refusal c.in-Ok-accept.is)), sym e.lent-ok.ensures ∙ o.0, o.1)
+    let o = opened _ _ (sym c.in-Ok.is ∙ c.admitted.ensures) in
+    (inside (passed _ WriteTarget _ _ (sym c.accept.ensures ∙ ap or_refusal c.in-Ok-accept.is)), o.0, o.1)
 
--- was returns
 pub returns-in-Err : goal.returns-in-Err
 unfolding write_arrival_of
-returns-in-Err c = let e = c in rw (entry_is _ e.lent-ok.ensures e.admit.ensures c.in-Err.is) (c.refused.ensures, refl)
+returns-in-Err c = rw (sym c.admitted.ensures ∙ c.in-Err.is) (c.refused.ensures, refl)
 
--- was returns-2
 pub returns-in-Err-accept : goal.returns-in-Err-accept
 unfolding write_arrival_of
-returns-in-Err-accept c =
-    let e = c in
-    rw (entry_is _ e.lent-ok.ensures e.admit.ensures c.in-Ok.is, sym c.accept.ensures ∙ ap or_refusal c.in-Err-accept.is) (c.refused-in-Err-accept.ensures, refl)
+returns-in-Err-accept c = rw (sym c.admitted.ensures ∙ c.in-Ok.is, sym c.accept.ensures ∙ ap or_refusal c.in-Err-accept.is) (c.refused-in-Err-accept.ensures, refl)
 
--- was returns-3
 pub returns-in-Ok-accept : goal.returns-in-Ok-accept
 unfolding write_arrival_of
 returns-in-Ok-accept c =
-    let g = c in
-    let e = g in
-    let p = sym g.accept.ensures ∙ ap or_refusal c.in-Ok-accept.is in
-    let s = e.args in
-    rw (entry_is _ e.lent-ok.ensures e.admit.ensures c.in-Ok.is, p) (placed-is s.x s.bytes.now s.buffer.now (passed _ WriteTarget _ _ p) c.take.ensures)
+    let p = sym c.accept.ensures ∙ ap or_refusal c.in-Ok-accept.is in
+    let s = c.args in
+    rw (sym c.admitted.ensures ∙ c.in-Ok.is, p) (placed-is s.x s.bytes.now s.buffer.now (passed _ WriteTarget _ _ p) c.take.ensures)

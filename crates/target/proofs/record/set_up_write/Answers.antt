@@ -3,13 +3,10 @@ use Rattle.status.specs.Result.{granted}
 use Rattle.status.proofs.Choose.{in_true, in_false}
 use Rattle.target.proofs.record.set_up_write.Goals as goal
 
--- was returns
-
-pub returns-then-limits-t : goal.returns-then-limits-t
+pub returns-then-limits_hold-t : goal.returns-then-limits_hold-t
 unfolding granted
-returns-then-limits-t c = in_true _ _ _ _ (rw c.limits_hold-limits.ensures at c.if-limits-t.true) (rw c.begin.ensures)
+returns-then-limits_hold-t c = in_true _ _ _ _ (rw c.limits_hold.ensures at c.if-limits_hold-t.true) (rw c.begin.ensures)
 
--- was returns-2
-pub returns-else-limits-t : goal.returns-else-limits-t
+pub returns-else-limits_hold-t : goal.returns-else-limits_hold-t
 unfolding granted
-returns-else-limits-t c = in_false _ _ _ _ (rw c.limits_hold-limits.ensures at c.if-limits-t.false) refl
+returns-else-limits_hold-t c = in_false _ _ _ _ (rw c.limits_hold.ensures at c.if-limits_hold-t.false) refl

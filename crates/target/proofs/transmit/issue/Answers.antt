@@ -9,7 +9,6 @@ new_tag-tptt-requires c = (held _ c.requires).since_most
 pub overflow_add-y : goal.overflow_add-y
 overflow_add-y c = omega (arith, (held _ c.requires).since_most)
 
--- was returns
 pub returns : goal.returns
 unfolding issued_of
 returns c = simp (c.burst-y.ensures, c.new_tag-tptt.ensures)
