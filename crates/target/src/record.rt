@@ -47,6 +47,7 @@ pub(crate) fn failed(mut x: Target, why: Failure) -> Stepped<Target>
 }
 
 // No XFER_RDY is handed out yet: 1, else the record with an empty burst at 0, filled.
+#[tactic(auto, unfolding(status::specs::Result::granted, status::specs::Pick::pick))]
 pub fn set_up_write(t: Transfer) -> Result<Target, Refusal>
     ensures { or_refusal result ≡ set_up_write_of t }
 {

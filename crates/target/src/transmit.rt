@@ -54,6 +54,7 @@ fn burst(x: Target) -> Target
 }
 
 // The record once the XFER_RDY is handed out, under a new tag.
+#[tactic(auto, unfolding(crate::specs::Transmit::issued_of))]
 fn issue(x: Target) -> Target
     requires { holds_of x ≡ true }
     ensures { result ≡ issued_of x }
@@ -115,6 +116,7 @@ fn transmit(x: Target, out: &mut [u8]) -> Stepped<Target>
 }
 
 // 1, 2; wait; 3, else an XFER_RDY of that length.
+#[tactic(auto, unfolding(crate::specs::Transmit::next_of, status::specs::Pick::pick))]
 pub fn write_next_frame(x: Target, out: &mut [u8]) -> Stepped<Target>
     ensures { (stepped result ≡ next_of x out.old) × (out.new ≡ handing (next_of x out.old).says (frame_of x) out.old) }
 {

@@ -26,14 +26,6 @@ take-requires c =
     let o = opened _ _ (sym c.in-Ok.is ∙ c.admitted.ensures) in
     (inside (passed _ WriteTarget _ _ (sym c.accept.ensures ∙ ap or_refusal c.in-Ok-accept.is)), o.0, o.1)
 
-pub returns-in-Err : goal.returns-in-Err
-unfolding write_arrival_of
-returns-in-Err c = rw (sym c.admitted.ensures ∙ c.in-Err.is) (c.refused.ensures, refl)
-
-pub returns-in-Err-accept : goal.returns-in-Err-accept
-unfolding write_arrival_of
-returns-in-Err-accept c = rw (sym c.admitted.ensures ∙ c.in-Ok.is, sym c.accept.ensures ∙ ap or_refusal c.in-Err-accept.is) (c.refused-in-Err-accept.ensures, refl)
-
 pub returns-in-Ok-accept : goal.returns-in-Ok-accept
 unfolding write_arrival_of
 returns-in-Ok-accept c =
