@@ -1,6 +1,5 @@
-// The target's record in a write command, and what its events leave.
+// The target's record in a write command.
 use receiver::Receiver;
-use status::{Answer, Refusal, Stepped};
 
 #[repr(C)]
 #[derive(Clone, Copy)]
