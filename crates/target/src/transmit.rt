@@ -116,7 +116,7 @@ fn transmit(x: Target, out: &mut [u8]) -> Stepped<Target>
 }
 
 // 1, 2; wait; 3, else an XFER_RDY of that length.
-#[tactic(auto, unfolding(crate::specs::Transmit::next_of, status::specs::Pick::pick))]
+#[tactic(auto, unfolding(crate::specs::Transmit::next_of, status::specs::Pick::pick), using(status::proofs::OpenedCall::opened))]
 pub fn write_next_frame(x: Target, out: &mut [u8]) -> Stepped<Target>
     ensures { (stepped result ≡ next_of x out.old) × (out.new ≡ handing (next_of x out.old).says (frame_of x) out.old) }
 {
