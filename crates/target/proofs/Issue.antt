@@ -1,18 +1,26 @@
 -- An XFER_RDY that is handed out: its record, and what the writer makes of it.
-use Prim.Native.Nat.{◌≤◌, ◌<◌}
+use Prim.Native.Nat.{ℕ, ◌≤◌, ◌<◌}
 use mathlib.Core.Bool.{Bool, true, false, ◌&&◌, ◌||◌, not}
+use mathlib.Core.List.{List}
 use mathlib.Core.Path.{◌≡◌, refl, ap, ◌∙◌}
 use native.Mathlib.Omega.{arith}
 use lib.Dec.{ltb, eqb}
 use lib.ListN.{length}
 use borrow.Author.Tests.{eqb-true, eqb-false, ltb-true, lt-ltb, eq-eqb, ne_eqb}
+use Rattle.std.specs.Prelude.{Result}
 use Rattle.status.specs.Pick.{pick}
+use Rattle.status.specs.Answer.{Left}
+use Rattle.status.specs.Result.{or_refusal}
+use Rattle.status.specs.declared.words.Refusal.{Refusal}
 use Rattle.status.proofs.OpenedCall.{differ}
 use Rattle.status.proofs.Leaves.{picked}
-use Rattle.frame.specs.Write.{writable}
+use Rattle.frame.specs.Format.{encode}
+use Rattle.frame.specs.Write.{writable, write_answer, answered, put, handing}
 use Rattle.frame.specs.XferRdy.{xfer_rdy_bytes}
+use Rattle.frame.specs.declared.types.Header.{Header}
+use Rattle.frame.proofs.Hands.{handed}
 use Rattle.target.specs.Record.{UNANSWERED, AGAIN}
-use Rattle.target.specs.Transmit.{due_of, next_burst, burst_of, issued_of, xfer_rdy_header, xfer_rdy_iu}
+use Rattle.target.specs.Transmit.{due_of, next_burst, burst_of, issued_of, xfer_rdy_header, xfer_rdy_iu, frame_of, hands_of}
 use Rattle.target.specs.declared.types.Target.{Target}
 use Rattle.target.proofs.Held.{Held}
 
@@ -68,5 +76,12 @@ pub iu_length_lem : (y : Target) → length (xfer_rdy_iu y) ≡ 12
 unfolding xfer_rdy_iu xfer_rdy_bytes
 iu_length_lem y = refl
 
-pub writes : (x : Target) → Held x → writable (xfer_rdy_header (issued_of x) (eqb x.state AGAIN)) (length (xfer_rdy_iu (issued_of x))) ≡ true
-writes x h = ap (writable (xfer_rdy_header (issued_of x) (eqb x.state AGAIN))) (iu_length_lem (issued_of x)) ∙ can_write x h
+module _ (x : Target) (h : Held x) where
+  writes : writable (xfer_rdy_header (issued_of x) (eqb x.state AGAIN)) (length (xfer_rdy_iu (issued_of x))) ≡ true
+  writes = ap (writable (xfer_rdy_header (issued_of x) (eqb x.state AGAIN))) (iu_length_lem (issued_of x)) ∙ can_write x h
+
+  -- the port's answer z where the writer answers w, for the record y that hands the XFER_RDY out
+  pub written : (out : List ℕ) {y : Target} {z : Left Target} {g : Header} {j left : List ℕ} {o w : Result ℕ Refusal} → y ≡ issued_of x → o ≡ w → z ≡ answered x y (or_refusal w) → g ≡ xfer_rdy_header y (eqb x.state AGAIN) → j ≡ xfer_rdy_iu y → (or_refusal o ≡ write_answer g j out) × (left ≡ put (write_answer g j out) (encode g j) out) → (z ≡ hands_of x out) × (left ≡ handing (hands_of x out).says (frame_of x) out)
+  unfolding frame_of
+  written out p q ez eg ej =
+      handed x (issued_of x) (xfer_rdy_header (issued_of x) (eqb x.state AGAIN)) (xfer_rdy_iu (issued_of x)) out writes (rw (p, ← q) at ez) (rw p at eg) (rw p at ej)

@@ -10,11 +10,8 @@ use lib.Dec.{leb, eqb}
 use lib.ListN.{length}
 use borrow.Author.Tests.{leb-true, leb-false, eq-eqb, ne_eqb}
 use Rattle.status.specs.Pick.{pick}
+use Rattle.status.proofs.OpenedCall.{differ}
 use Rattle.target.specs.Tag.{member, search as from, lowest, used}
-
--- two answers that differ
-pub differ : {A : Type 0} → ◌≡◌ {A = ℕ} 0 1 → A
-differ e = absurd (omega arith)
 
 -- a number that is not in the list, all below it being in it, is where the search ends
 search_ends : (l : List ℕ) (k m n : ℕ) → m ≤ n → n ≤ m + k → member n l ≡ false → ((i : ℕ) → m ≤ i → i < n → member i l ≡ true) → from l k m ≡ n

@@ -1,9 +1,8 @@
 -- ACK, NAK, timeout, cut and nexus loss at the target's XFER_RDY.
 use Rattle.std.specs.Prelude.{ℕ, ◌+◌, false, ltb, eqb}
 use Rattle.status.specs.Pick.{pick, ◌with◌}
-use Rattle.status.specs.Entry.{entry_of, confirmable_of}
+use Rattle.status.specs.Entry.{Entry, entry_of, confirmable_of}
 use Rattle.status.specs.Answer.{Word, Said, Left, ◌saying◌, unless}
-use Rattle.status.specs.Entry.{Entry}
 use Rattle.receiver_steps.specs.Fields.{expected≔, filled≔, waiting≔}
 use Rattle.target.specs.Fields.{receiver≔, state≔, retries≔, elapsed≔}
 use Rattle.target.specs.Record.{UNANSWERED, AGAIN, READY, holds_of, failed_of}
@@ -36,8 +35,11 @@ abbrev pub timeout_of : Target → Left Target
 timeout_of x = unless (confirms_of x) x (retry_of x 29)
 
 -- "A cut with none changes nothing"
+abbrev pub cut_step_of : Target → Left Target
+cut_step_of x = pick (eqb x.state UNANSWERED) (retry_of x 30) (x saying Said.word Word.unchanged)
+
 abbrev pub cut_of : Target → Left Target
-cut_of x = unless (entry_of (holds_of x) x.receiver.ended) x (pick (eqb x.state UNANSWERED) (retry_of x 30) (x saying Said.word Word.unchanged))
+cut_of x = unless (entry_of (holds_of x) x.receiver.ended) x (cut_step_of x)
 
 -- "31: reported by the port layer"
 abbrev pub loss_of : Target → Left Target

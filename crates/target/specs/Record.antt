@@ -1,8 +1,7 @@
 -- The target's record in a write command: the XFER_RDY's state, the tests of number 1, failure, set_up.
 use Rattle.std.specs.Prelude.{ℕ, List, [], ◌∷◌, Bool, true, false, ◌||◌, leb, ltb, eqb}
 use Rattle.status.specs.Pick.{pick, all, ◌with◌}
-use Rattle.status.specs.Number.{refusal_number}
-use Rattle.status.specs.Answer.{Said, says, Left, ◌saying◌}
+use Rattle.status.specs.Answer.{Said, Left, ◌saying◌}
 use Rattle.status.specs.Result.{Result, granted}
 use Rattle.transfer.specs.Limits.{limits_hold}
 use Rattle.transfer.specs.declared.Transfer.{Transfer}

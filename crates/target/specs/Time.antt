@@ -18,6 +18,10 @@ unfoldable pub elapsed_of : Target → ℕ → Left Target
 elapsed_of x ms =
     pick (leb x.receiver.transfer.irt (x.elapsed + ms)) (failed_of x 33) ((x with elapsed≔ (x.elapsed + ms)) saying Said.word Word.taken)
 
--- "33 .. on a report of time only, after 1 and 2"; "Time reported outside that span changes nothing"
+-- "Time reported outside that span changes nothing"
+abbrev pub report_of : Target → ℕ → Left Target
+report_of x ms = pick (runs_of x) (elapsed_of x ms) (x saying Said.word Word.unchanged)
+
+-- "33 .. on a report of time only, after 1 and 2"
 unfoldable pub time_of : Target → ℕ → Left Target
-time_of x ms = unless (entry_of (holds_of x) x.receiver.ended) x (pick (runs_of x) (elapsed_of x ms) (x saying Said.word Word.unchanged))
+time_of x ms = unless (entry_of (holds_of x) x.receiver.ended) x (report_of x ms)

@@ -2,31 +2,32 @@
 ghost use Rattle.std.specs.Prelude.{◌≡◌};
 ghost use Rattle.status.specs.Stepped.{stepped};
 ghost use Rattle.status.specs.Number.{failure_number};
-ghost use Rattle.status.specs.Answer.{Word, Said, ◌saying◌};
-ghost use Rattle.target.specs.Confirmation.{confirms_of, acknowledged_of, retry_of, ack_of, nak_of, timeout_of, cut_of, loss_of};
+ghost use Rattle.status.specs.Answer.{Word, Said, ◌saying◌, unless};
+ghost use Rattle.target.specs.Confirmation.{confirms_of, acknowledged_of, retry_of, ack_of, nak_of, timeout_of, cut_step_of, cut_of, loss_of};
 
 use crate::record;
 use crate::types::Target;
 use status::{Answer, Failure, Refusal, Stepped};
 
 // 1, 2, then 4.
+#[tactic(auto, unfolding(crate::specs::Confirmation::confirms_of))]
 fn confirmable(x: Target) -> Result<(), Refusal>
     ensures { result ≡ confirms_of x }
 {
-    let ok = record::holds(x);
-    let ended = x.receiver.ended;
-    status::confirmable(ok, ended, x.state == Target::UNANSWERED)
+    status::confirmable(
+        record::holds(x),
+        x.receiver.ended,
+        x.state == Target::UNANSWERED,
+    )
 }
 
 // At its ACK, expected offset and filled mark are the burst's base, and the sum of milliseconds starts from zero.
 fn acknowledged(mut x: Target) -> Stepped<Target>
     ensures { stepped result ≡ (acknowledged_of x saying Said.word Word.acknowledged) }
 {
-    let mut r = x.receiver;
-    r.expected = r.base;
-    r.filled = r.base;
-    r.waiting = false;
-    x.receiver = r;
+    x.receiver.expected = x.receiver.base;
+    x.receiver.filled = x.receiver.base;
+    x.receiver.waiting = false;
     x.state = Target::READY;
     x.elapsed = 0;
     Stepped {
@@ -35,12 +36,12 @@ fn acknowledged(mut x: Target) -> Stepped<Target>
     }
 }
 
+#[tactic(auto, unfolding(crate::specs::Confirmation::retry_of, status::specs::Pick::pick))]
 fn retry(mut x: Target, cause: Failure) -> Stepped<Target>
     ensures { stepped result ≡ retry_of x (failure_number cause) }
 {
-    let limit = x.receiver.transfer.limit;
-    if x.retries < limit {
-        x.retries = x.retries + 1;
+    if x.retries < x.receiver.transfer.limit {
+        x.retries += 1;
         x.state = Target::AGAIN;
         Stepped {
             left: x,
@@ -55,29 +56,42 @@ fn retry(mut x: Target, cause: Failure) -> Stepped<Target>
 pub fn write_ack_received(x: Target) -> Stepped<Target>
     ensures { stepped result ≡ ack_of x }
 {
-    match confirmable(x) {
-        Err(why) => Stepped::refused(x, why),
-        Ok(()) => acknowledged(x),
-    }
+    Stepped::unless(confirmable(x), x, |x| acknowledged(x))
+}
+
+// 1, 2, 4; retry, or the failure with that cause.
+fn unconfirmed(x: Target, cause: Failure) -> Stepped<Target>
+    ensures { stepped result ≡ unless (confirms_of x) x (retry_of x (failure_number cause)) }
+{
+    Stepped::unless(confirmable(x), x, |x| retry(x, cause))
 }
 
 // 1, 2, 4; retry or 28.
 pub fn write_nak_received(x: Target) -> Stepped<Target>
     ensures { stepped result ≡ nak_of x }
 {
-    match confirmable(x) {
-        Err(why) => Stepped::refused(x, why),
-        Ok(()) => retry(x, Failure::NakReceived),
-    }
+    unconfirmed(x, Failure::NakReceived)
 }
 
 // 1, 2, 4; retry or 29.
 pub fn write_ack_nak_timeout(x: Target) -> Stepped<Target>
     ensures { stepped result ≡ timeout_of x }
 {
-    match confirmable(x) {
-        Err(why) => Stepped::refused(x, why),
-        Ok(()) => retry(x, Failure::AckNakTimeout),
+    unconfirmed(x, Failure::AckNakTimeout)
+}
+
+// A cut with none unanswered changes nothing.
+#[tactic(auto, unfolding(status::specs::Pick::pick))]
+fn cut(x: Target) -> Stepped<Target>
+    ensures { stepped result ≡ cut_step_of x }
+{
+    if x.state == Target::UNANSWERED {
+        retry(x, Failure::ConnectionLost)
+    } else {
+        Stepped {
+            left: x,
+            answer: Answer::Unchanged,
+        }
     }
 }
 
@@ -85,31 +99,16 @@ pub fn write_ack_nak_timeout(x: Target) -> Stepped<Target>
 pub fn write_connection_lost(x: Target) -> Stepped<Target>
     ensures { stepped result ≡ cut_of x }
 {
-    let ok = record::holds(x);
-    let ended = x.receiver.ended;
-    match status::admit(ok, ended) {
-        Err(why) => Stepped::refused(x, why),
-        Ok(()) => {
-            if x.state == Target::UNANSWERED {
-                retry(x, Failure::ConnectionLost)
-            } else {
-                Stepped {
-                    left: x,
-                    answer: Answer::Unchanged,
-                }
-            }
-        }
-    }
+    Stepped::unless(record::admitted(x), x, |x| cut(x))
 }
 
 // 1, 2, else 31.
 pub fn write_nexus_lost(x: Target) -> Stepped<Target>
     ensures { stepped result ≡ loss_of x }
 {
-    let ok = record::holds(x);
-    let ended = x.receiver.ended;
-    match status::admit(ok, ended) {
-        Err(why) => Stepped::refused(x, why),
-        Ok(()) => record::failed(x, Failure::NexusLoss),
-    }
+    Stepped::unless(
+        record::admitted(x),
+        x,
+        |x| record::failed(x, Failure::NexusLoss),
+    )
 }

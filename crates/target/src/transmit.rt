@@ -11,13 +11,14 @@ use frame::{Flags, Header, XferRdy};
 use status::{Answer, Stepped};
 
 // One is to be sent again, or the previous burst is filled and the byte count is not reached.
+#[tactic(auto, unfolding(crate::specs::Transmit::due_of))]
 fn is_due(x: Target) -> bool
     ensures { result ≡ due_of x }
 {
-    let r = x.receiver;
-    let t = r.transfer;
     (x.state == Target::AGAIN)
-        | ((x.state != Target::UNANSWERED) & (r.filled == r.end) & (r.end < t.count))
+        | ((x.state != Target::UNANSWERED)
+            & (x.receiver.filled == x.receiver.end)
+            & (x.receiver.end < x.receiver.transfer.count))
 }
 
 // The lesser of the burst size and what remains, from the end of the previous burst.
@@ -25,14 +26,8 @@ fn burst_end(x: Target) -> u32
     requires { holds_of x ≡ true }
     ensures { result ≡ burst_end x }
 {
-    let r = x.receiver;
-    let t = r.transfer;
-    let left = t.count - r.end;
-    if t.burst <= left {
-        r.end + t.burst
-    } else {
-        t.count
-    }
+    let left = x.receiver.transfer.count - x.receiver.end;
+    x.receiver.end + x.receiver.transfer.burst.min(left)
 }
 
 // The next burst, from the end of the previous one.
@@ -40,16 +35,13 @@ fn next_burst(mut x: Target) -> Target
     requires { holds_of x ≡ true }
     ensures { result ≡ next_burst x }
 {
-    let end = burst_end(x);
-    let r = x.receiver;
-    let t = r.transfer;
-    let next = receiver_steps::begin(t, r.end, end);
-    x.receiver = next;
+    x.receiver = receiver_steps::begin(x.receiver.transfer, x.receiver.end, burst_end(x));
     x.retries = 0;
     x
 }
 
 // The burst that the XFER_RDY is for: the same one again, or the next.
+#[tactic(auto, unfolding(crate::specs::Transmit::burst_of, status::specs::Pick::pick))]
 fn burst(x: Target) -> Target
     requires { holds_of x ≡ true }
     ensures { result ≡ burst_of x }
@@ -62,6 +54,7 @@ fn burst(x: Target) -> Target
 }
 
 // The record once the XFER_RDY is handed out, under a new tag.
+#[tactic(auto, unfolding(crate::specs::Transmit::issued_of))]
 fn issue(x: Target) -> Target
     requires { holds_of x ≡ true }
     ensures { result ≡ issued_of x }
@@ -75,11 +68,11 @@ fn issue(x: Target) -> Target
 }
 
 // RETRANSMIT is one where it is sent again; `y` is the record that hands it out.
+#[tactic(auto, unfolding(crate::specs::Transmit::xfer_rdy_header))]
 fn header(y: Target, again: bool) -> Header
     ensures { result ≡ xfer_rdy_header y again }
 {
-    let r = y.receiver;
-    let t = r.transfer;
+    let t = y.receiver.transfer;
     Header {
         frametype: frame::XFER_RDY,
         dest: t.remote,
@@ -96,14 +89,14 @@ fn header(y: Target, again: bool) -> Header
     }
 }
 
+#[tactic(auto, unfolding(crate::specs::Transmit::xfer_rdy_iu))]
 fn iu(y: Target) -> [u8; 12]
     requires { y.receiver.base ≤ y.receiver.end }
     ensures { result ≡ xfer_rdy_iu y }
 {
-    let r = y.receiver;
     frame::write_xfer_rdy(XferRdy {
-        offset: r.base,
-        len: r.end - r.base,
+        offset: y.receiver.base,
+        len: y.receiver.end - y.receiver.base,
     })
 }
 
@@ -113,9 +106,7 @@ fn transmit(x: Target, out: &mut [u8]) -> Stepped<Target>
     ensures { (stepped result ≡ hands_of x out.old) × (out.new ≡ handing (hands_of x out.old).says (frame_of x) out.old) }
 {
     let y = issue(x);
-    let bytes = iu(y);
-    let written = frame::write(header(y, x.state == Target::AGAIN), &bytes, out);
-    match written {
+    match frame::write(header(y, x.state == Target::AGAIN), &iu(y), out) {
         Ok(length) => Stepped {
             left: y,
             answer: Answer::Frame(length),
@@ -125,12 +116,11 @@ fn transmit(x: Target, out: &mut [u8]) -> Stepped<Target>
 }
 
 // 1, 2; wait; 3, else an XFER_RDY of that length.
+#[tactic(auto, unfolding(crate::specs::Transmit::next_of, status::specs::Pick::pick), using(status::proofs::OpenedCall::opened))]
 pub fn write_next_frame(x: Target, out: &mut [u8]) -> Stepped<Target>
     ensures { (stepped result ≡ next_of x out.old) × (out.new ≡ handing (next_of x out.old).says (frame_of x) out.old) }
 {
-    let ok = record::holds(x);
-    let ended = x.receiver.ended;
-    match status::admit(ok, ended) {
+    match record::admitted(x) {
         Err(why) => Stepped::refused(x, why),
         Ok(()) => {
             if is_due(x) {

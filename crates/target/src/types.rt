@@ -1,6 +1,5 @@
-// The target's record in a write command, and what its events leave.
+// The target's record in a write command.
 use receiver::Receiver;
-use status::{Answer, Refusal, Stepped};
 
 #[repr(C)]
 #[derive(Clone, Copy)]
@@ -10,7 +9,7 @@ pub struct Target {
     // of the XFER_RDY: its retries, its target port transfer tag
     pub retries: u32,
     pub tptt: u16,
-    // DATA was stored, last under this tag
+    // DATA was stored, last under this tag; with `stored` no Option, since both are fields of the C interface
     pub under: u16,
     // tags handed out since
     pub since: u16,
@@ -21,6 +20,7 @@ pub struct Target {
     pub elapsed: u16,
 }
 
+// Numbers and no enum, since `state` is a byte of the C interface: a caller may put any there, and one above 3 is 1 (specs/Record `holds_of`).
 impl Target {
     // none was handed out yet
     pub const NONE: u8 = 0;

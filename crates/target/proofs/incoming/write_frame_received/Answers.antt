@@ -1,8 +1,8 @@
 use Prim.Native.Nat.{ℕ, ◌+◌, ◌≤◌}
 use mathlib.Core.List.{List}
-use mathlib.Core.Path.{◌≡◌, refl, sym, ap, ◌∙◌}
+use mathlib.Core.Path.{◌≡◌, sym, ap, ◌∙◌}
 use lib.ListN.{length, take, drop}
-use Rattle.status.proofs.OpenedCall.{opened, entry_is}
+use Rattle.status.proofs.OpenedCall.{opened}
 use Rattle.status.specs.Answer.{Left}
 use Rattle.frame.specs.Read.{header_in, iu_of}
 use Rattle.arrival.specs.declared.Role.TheVariants.{WriteTarget}
@@ -23,25 +23,12 @@ placed-is x f d {a} p t = (t.0, t.1 ∙ ap (λ (b : Arrived). storing (taken_of 
 
 pub take-requires : goal.take-requires
 take-requires c =
-    let e = c in
-    let o = opened _ _ (sym c.in-Ok.is ∙ e.admit.ensures) in
-    (inside (passed _ WriteTarget _ _ (sym c.accept.ensures ∙ ap or_refusal c.in-Ok-accept.is)), sym e.lent-ok.ensures ∙ o.0, o.1)
-
-pub returns-in-Err : goal.returns-in-Err
-unfolding write_arrival_of
-returns-in-Err c = let e = c in rw (entry_is _ e.lent-ok.ensures e.admit.ensures c.in-Err.is) (c.refused.ensures, refl)
-
-pub returns-in-Err-accept : goal.returns-in-Err-accept
-unfolding write_arrival_of
-returns-in-Err-accept c =
-    let e = c in
-    rw (entry_is _ e.lent-ok.ensures e.admit.ensures c.in-Ok.is, sym c.accept.ensures ∙ ap or_refusal c.in-Err-accept.is) (c.refused-in-Err-accept.ensures, refl)
+    let o = opened _ _ (sym c.in-Ok.is ∙ c.admitted.ensures) in
+    (inside (passed _ WriteTarget _ _ (sym c.accept.ensures ∙ ap or_refusal c.in-Ok-accept.is)), o.0, o.1)
 
 pub returns-in-Ok-accept : goal.returns-in-Ok-accept
 unfolding write_arrival_of
 returns-in-Ok-accept c =
-    let g = c in
-    let e = g in
-    let p = sym g.accept.ensures ∙ ap or_refusal c.in-Ok-accept.is in
-    let s = e.args in
-    rw (entry_is _ e.lent-ok.ensures e.admit.ensures c.in-Ok.is, p) (placed-is s.x s.bytes.now s.buffer.now (passed _ WriteTarget _ _ p) c.take.ensures)
+    let p = sym c.accept.ensures ∙ ap or_refusal c.in-Ok-accept.is in
+    let s = c.args in
+    rw (sym c.admitted.ensures ∙ c.in-Ok.is, p) (placed-is s.x s.bytes.now s.buffer.now (passed _ WriteTarget _ _ p) c.take.ensures)

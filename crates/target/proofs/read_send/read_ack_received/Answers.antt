@@ -1,9 +1,9 @@
-use mathlib.Core.Path.{sym, ◌∙◌}
-use Rattle.target.proofs.ReadSteps.{refuses, steps}
+use mathlib.Core.List.{[]}
+use Rattle.std.proofs.Common.{rules}
+use Rattle.sender.specs.Confirmation.{ack_of}
+use Rattle.sender.proofs.Counting.{ack_counts}
+use Rattle.target.proofs.ReadSteps.{reads}
 use Rattle.target.proofs.read_send.read_ack_received.Goals as goal
 
-pub returns-then-is_write : goal.returns-then-is_write
-returns-then-is_write c = refuses c.args.s _ (sym c.is_write.ensures ∙ c.if-is_write.true) c.bad_request.ensures
-
-pub returns-else-is_write : goal.returns-else-is_write
-returns-else-is_write c = steps c.args.s _ (sym c.is_write.ensures ∙ c.if-is_write.false) c.ack_received.ensures
+pub returns : goal.returns
+returns c = reads c.args.s [] _ c.is_read.ensures (ack_counts c.args.s) (c.unless.ensures (ack_of c.args.s) (λ r p. search rules))

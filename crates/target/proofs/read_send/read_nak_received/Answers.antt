@@ -1,9 +1,9 @@
-use mathlib.Core.Path.{sym, ◌∙◌}
-use Rattle.target.proofs.ReadSteps.{refuses, steps}
+use mathlib.Core.List.{[]}
+use Rattle.std.proofs.Common.{rules}
+use Rattle.sender.specs.Confirmation.{nak_of}
+use Rattle.sender.proofs.Counting.{nak_counts}
+use Rattle.target.proofs.ReadSteps.{reads}
 use Rattle.target.proofs.read_send.read_nak_received.Goals as goal
 
-pub returns-then-is_write : goal.returns-then-is_write
-returns-then-is_write c = refuses c.args.s _ (sym c.is_write.ensures ∙ c.if-is_write.true) c.bad_request.ensures
-
-pub returns-else-is_write : goal.returns-else-is_write
-returns-else-is_write c = steps c.args.s _ (sym c.is_write.ensures ∙ c.if-is_write.false) c.nak_received.ensures
+pub returns : goal.returns
+returns c = reads c.args.s [] _ c.is_read.ensures (nak_counts c.args.s) (c.unless.ensures (nak_of c.args.s) (λ r p. search rules))

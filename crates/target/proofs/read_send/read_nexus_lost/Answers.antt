@@ -1,9 +1,9 @@
-use mathlib.Core.Path.{sym, ◌∙◌}
-use Rattle.target.proofs.ReadSteps.{refuses, steps}
+use mathlib.Core.List.{[]}
+use Rattle.std.proofs.Common.{rules}
+use Rattle.sender.specs.Confirmation.{loss_of}
+use Rattle.sender.proofs.Counting.{loss_counts}
+use Rattle.target.proofs.ReadSteps.{reads}
 use Rattle.target.proofs.read_send.read_nexus_lost.Goals as goal
 
-pub returns-then-is_write : goal.returns-then-is_write
-returns-then-is_write c = refuses c.args.s _ (sym c.is_write.ensures ∙ c.if-is_write.true) c.bad_request.ensures
-
-pub returns-else-is_write : goal.returns-else-is_write
-returns-else-is_write c = steps c.args.s _ (sym c.is_write.ensures ∙ c.if-is_write.false) c.nexus_lost.ensures
+pub returns : goal.returns
+returns c = reads c.args.s [] _ c.is_read.ensures (loss_counts c.args.s) (c.unless.ensures (loss_of c.args.s) (λ r p. search rules))

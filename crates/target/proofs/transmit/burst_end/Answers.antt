@@ -4,6 +4,3 @@ use Rattle.target.proofs.transmit.burst_end.Goals as goal
 
 pub overflow_sub-left : goal.overflow_sub-left
 overflow_sub-left c = omega (arith, (held _ c.requires).end_most)
-
-pub returns-else-t-left : goal.returns-else-t-left
-returns-else-t-left c = omega (arith, (held _ c.requires).end_most)

@@ -1,5 +1,4 @@
 use native.Mathlib.Omega.{arith}
-use Rattle.target.specs.Transmit.{issued_of}
 use Rattle.target.proofs.Held.{held}
 use Rattle.target.proofs.transmit.issue.Goals as goal
 
@@ -8,7 +7,3 @@ new_tag-tptt-requires c = (held _ c.requires).since_most
 
 pub overflow_add-y : goal.overflow_add-y
 overflow_add-y c = omega (arith, (held _ c.requires).since_most)
-
-pub returns : goal.returns
-unfolding issued_of
-returns c = simp (c.burst-y.ensures, c.new_tag-tptt.ensures)
