@@ -24,12 +24,12 @@ copied d s a e fits within =
     sym (drop-append-le n (take (e - a) l) (drop (e - a) l) room) ∙ ap (λ (x : List ℕ). drop n x) (take-append-drop (e - a) l) ∙ drop-drop n a d in
     rw (take-length s, append_assoc s, rest) refl
 
--- the same of a part that is as long as s
-pub copied_whole : (d s : List ℕ) (a : ℕ) → put_mid a ((a + length s) - a) d s ≡ placed d a s
+-- the same of n bytes and a part that is as long
+pub put_in : (d s t : List ℕ) (a n : ℕ) → t ≡ s → length t ≡ n → put_mid a ((a + n) - a) d t ≡ placed d a s
 unfolding placed
-copied_whole d s a =
-    let n : (a + length s) - a ≡ length s = omega arith in
-    rw (n, drop-drop (length s) a d) refl
+put_in d s t a n e l =
+    let k : (a + n) - a ≡ length s = omega (arith, ap length e) in
+    rw (k, drop-drop (length s) a d, e) refl
 
 -- the same of a copy that goes as far as the part reaches
 pub copied_over : (d s : List ℕ) (a e : ℕ) → a + length s ≤ e → e ≤ length d → put_mid a (e - a) d (over (take (length (mid_of a (e - a) d)) s) (mid_of a (e - a) d)) ≡ placed d a s

@@ -13,7 +13,7 @@ pub fn write_full(h: Header, iu: &[u8], out: &mut [u8]) -> bool
     if !(encode::can_write(h, n) & (n % 4 == 0) & (24 + n <= out.len())) {
         return false;
     }
-    encode::place_words(h, 0, out);
+    encode::place_header(h, 0, out);
     words::copy(iu, &mut out[24..]);
     true
 }

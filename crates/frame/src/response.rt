@@ -36,7 +36,7 @@ fn needing(met: bool, iu: &[u8], sense: usize) -> Result<Opened, Failure>
 {
     if met {
         return Ok(Opened {
-            kind: byte::low_two_bits(iu[10]),
+            kind: iu[10] % 4,
             status: iu[11],
             sense: sense,
         });
@@ -49,7 +49,7 @@ fn by_kind(iu: &[u8]) -> Result<Opened, Failure>
     requires { 24 ≤ length iu.now }
     ensures { or_failure result ≡ by_kind iu.now }
 {
-    match byte::low_two_bits(iu[10]) {
+    match iu[10] % 4 {
         0 => needing(iu.len() == 24, iu, 0),
         1 => needing(response_fits(iu), iu, 0),
         2 => needing(sense_fits(iu), iu, byte::be32(iu, 16) as usize),

@@ -1,11 +1,8 @@
 use Rattle.status.proofs.Choose.{choose}
 use Rattle.frame.proofs.response.needing.Goals as goal
 
--- was returns
-
 pub returns-then-met : goal.returns-then-met
-returns-then-met c = simp c.low_two_bits.ensures (search choose)
+returns-then-met c = search choose
 
--- was returns-2
 pub returns : goal.returns
 returns c = search choose
