@@ -1,6 +1,6 @@
 -- Little-endian words: what is read and put down again, std's functions for them, and the words of big-endian numbers.
 use Prim.Native.Nat.{ℕ, zero, suc, ◌+◌, ◌*◌, ◌/◌, ◌%◌, ◌^◌, ◌≤◌, ◌<◌}
-use mathlib.Core.List.{List, [], ◌∷◌}
+use mathlib.Core.List.{List}
 use mathlib.Core.Path.{◌≡◌, refl, sym, ap, ◌∙◌}
 use native.Mathlib.Nat.{zero-add, add-zero, add_assoc, suc-add, mul_assoc, pow-suc, pow-succ'}
 use native.Mathlib.Numerals.{add-one}

@@ -1,6 +1,6 @@
 -- A copy into a part of a buffer, and copies one after the other.
 use Prim.Native.Nat.{ℕ, ◌+◌, ◌-◌, ◌≤◌}
-use mathlib.Core.List.{List, [], ◌∷◌, ◌++◌, append_assoc}
+use mathlib.Core.List.{List, [], ◌++◌, append_assoc}
 use mathlib.Core.Path.{◌≡◌, refl, sym, ap, ◌∙◌}
 use native.Mathlib.Nat.{zero-add, add-zero, add_assoc}
 use native.Mathlib.Omega.{arith}
@@ -8,10 +8,6 @@ use lib.ListN.{length, take, drop, length-append, length-drop, take-append-drop}
 use lib.Seq.{take-length, take_all, length-take-le, drop-append-le, drop-append-add, drop-append_seam, drop-drop, take_at, drop_at}
 use borrow.Rule.Slice.PartMut.{put_mid, mid_of, mid_len}
 use Rattle.frame.specs.Write.{over, placed}
-
-pub empty : (l : List ℕ) → length l ≡ 0 → l ≡ []
-empty [] e = refl
-empty (x ∷ xs) e = absurd (omega arith)
 
 -- what a copy of s into the part of d from a to e leaves in d
 pub copied : (d s : List ℕ) (a e : ℕ) → a + length s ≤ e → e ≤ length d → put_mid a (e - a) d (take (length s) s ++ drop (length s) (mid_of a (e - a) d)) ≡ placed d a s

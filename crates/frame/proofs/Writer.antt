@@ -9,10 +9,10 @@ use lib.Dec.{leb}
 use borrow.Author.Tests.{le-leb, lt-leb, leb-true}
 use Rattle.status.specs.Pick.{pick}
 use Rattle.status.specs.Result.{Result}
-use Rattle.status.proofs.Choose.{in_true, in_false, each}
+use Rattle.status.proofs.Choose.{in_true, in_false}
 use Rattle.status.proofs.OpenedCall.{differ}
 use Rattle.frame.specs.Format.{fill_of, header_bytes, data_bytes, encode}
-use Rattle.frame.specs.Write.{request, writable, write_answer, placed}
+use Rattle.frame.specs.Write.{writable, write_answer, placed}
 use Rattle.frame.specs.declared.types.Header.{Header}
 use Rattle.frame.proofs.Place.{placed_behind}
 
@@ -46,10 +46,6 @@ laid iu d y w f within ef ey ew =
     let z = take {A = ℕ} f (0 ∷ 0 ∷ 0 ∷ []) in
     let ez : z ≡ replicate (fill_of (length iu)) 0 = zeros f (omega arith) ∙ ap (λ (k : ℕ). replicate k 0) ef in
     ew ∙ ap (λ (v : List ℕ). placed v (24 + length iu) z) ey ∙ placed_behind d iu 24 within z ∙ ap (λ (v : List ℕ). placed d 24 (iu ++ v)) ez
-
--- an IU that the writer takes
-pub short_iu : (h : Header) (n : ℕ) → writable h n ≡ true → n ≤ 1_024
-short_iu h n w = leb-true _ _ (each (request h n) w).1.1.1.1.0
 
 -- each answer, by the lengths of IU and output buffer
 module _ (h : Header) (n room : ℕ) where

@@ -42,6 +42,7 @@ fn well_formed(b: &[u8]) -> bool
 }
 
 // Any bytes: 5, 6, else header, start and length of the IU.
+#[tactic(auto, unfolding(crate::specs::Read::decode, status::specs::Pick::pick))]
 pub fn read(b: &[u8]) -> Result<Parsed, Refusal>
     ensures { or_refusal result ≡ decode b.now }
 {

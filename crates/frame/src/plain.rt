@@ -23,6 +23,7 @@ pub fn is_data(b: &[u8], dest: u32, source: u32, tag: u16, offset: u32) -> bool
 }
 
 // The TPTT of any bytes, 0 where they end before it.
+#[tactic(auto, unfolding(status::specs::Pick::pick))]
 pub fn transfer_tag(b: &[u8]) -> u16
     ensures { result ≡ transfer_tag b.now }
 {
