@@ -6,10 +6,10 @@ use mathlib.Core.Path.{◌≡◌, refl, sym, ap, ◌∙◌}
 use native.Mathlib.Omega.{arith}
 use lib.ListN.{length, take, replicate, length-append, length-replicate}
 use lib.Dec.{leb}
-use borrow.Author.Tests.{le-leb, lt-leb, leb-true}
+use borrow.Author.Tests.{le-leb, leb-true}
 use Rattle.status.specs.Pick.{pick}
 use Rattle.status.specs.Result.{Result}
-use Rattle.status.proofs.Choose.{in_true, in_false}
+use Rattle.status.proofs.Choose.{in_true}
 use Rattle.status.proofs.OpenedCall.{differ}
 use Rattle.frame.specs.Format.{fill_of, header_bytes, data_bytes, encode}
 use Rattle.frame.specs.Write.{writable, write_answer, placed}
@@ -51,14 +51,6 @@ laid iu d y w f within ef ey ew =
 module _ (h : Header) (n room : ℕ) where
   abbrev pub Answers : Result ℕ → Type 0
   Answers a = (iu out : List ℕ) → length iu ≡ n → length out ≡ room → a ≡ write_answer h iu out
-
-  pub refuses_1 : writable h n ≡ false → Answers (Result.number 1)
-  refuses_1 w iu out ei eo = in_false _ _ _ _ (ap (writable h) ei ∙ w) refl
-
-  pub refuses_3 : (f : ℕ) → f ≡ fill_of n → writable h n ≡ true → room < 24 + n + f → Answers (Result.number 3)
-  refuses_3 f ef w short iu out ei eo =
-      let s : length out < length (encode h iu) = omega (arith, encode_length h iu) in
-      in_true _ _ _ _ (ap (writable h) ei ∙ w) (in_false _ _ _ _ (lt-leb _ _ s) refl)
 
   pub takes : (f : ℕ) → f ≡ fill_of n → writable h n ≡ true → 24 + n + f ≤ room → Answers (Result.value (24 + n + f))
   takes f ef w long iu out ei eo =

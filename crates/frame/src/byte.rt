@@ -32,7 +32,8 @@ pub(crate) fn flags_of(b: u8) -> Flags
     }
 }
 
-// The two, three or four bytes from `at`, big-endian.
+// The two, three or four bytes from `at`, big-endian. They are three functions, since from_be_bytes is a method of each
+// type and of no trait.
 pub(crate) fn be16(b: &[u8], at: usize) -> u16
     requires { at + 2 ≤ length b.now }
     ensures { result ≡ field b.now at 2 }

@@ -6,6 +6,7 @@ use crate::types::Header;
 use crate::{encode, words};
 
 // True and the frame at the front of the output buffer; for any other frame false, and no byte changes.
+#[tactic(auto, unfolding(crate::specs::Full::is_full, status::specs::Pick::pick))]
 pub fn write_full(h: Header, iu: &[u8], out: &mut [u8]) -> bool
     ensures { (result ≡ is_full h (length iu.now) (length out.old)) × (out.new ≡ put_full h iu.now out.old) }
 {

@@ -23,12 +23,8 @@ fn sense_fits(iu: &[u8]) -> bool
     requires { 24 ≤ length iu.now }
     ensures { result ≡ sense_fits iu.now }
 {
-    let n = byte::be32(iu, 16);
-    let past = 24 + (n as usize);
-    if iu.len() != past {
-        return false;
-    }
-    (1 <= n) & (n <= 1000)
+    let n = byte::be32(iu, 16) as usize;
+    (1 <= n) & (n <= 1000) & (iu.len() == 24 + n)
 }
 
 // 34, or kind, status and bytes of sense data.
@@ -41,7 +37,7 @@ fn needing(met: bool, iu: &[u8], sense: usize) -> Result<Opened, Failure>
         return Ok(Opened {
             kind: iu[10] % 4,
             status: iu[11],
-            sense: sense,
+            sense,
         });
     }
     Err(Failure::ResponseDataWrong)

@@ -59,7 +59,8 @@ fn copy_if<const N: usize>(src: &[u8], dst: &mut [u8], i: usize, n: usize) -> us
     i + N
 }
 
-// Copies src to the front of dst, as far as dst reaches.
+// Copies src to the front of dst, as far as dst reaches. The copy goes by blocks of constant length: of copy_from_slice
+// at any other length LLVM makes a call of memmove, and the archive for C needs no function from outside.
 pub fn copy(src: &[u8], dst: &mut [u8])
     ensures { dst.new ≡ over (take (length dst.old) src.now) dst.old }
 {

@@ -6,14 +6,8 @@ use native.Mathlib.Omega.{arith}
 use borrow.Rule.Slice.PartMut.{put_mid}
 use lib.ListN.{length}
 use Rattle.frame.proofs.Place.{copied_over}
-use Rattle.frame.proofs.FullFrame.{full_gives, is_full_lem, not_full, both_put, none_put}
+use Rattle.frame.proofs.FullFrame.{full_gives, is_full_lem, both_put}
 use Rattle.frame.proofs.full.write_full.Goals as goal
-
-pub returns-then-not-can_write-n : goal.returns-then-not-can_write-n
-returns-then-not-can_write-n c =
-    let a = c.args in
-    let e = not_full a.h (length a.iu.now) (length a.out.now) c.can_write.ensures (ap not c.if-not-can_write-n.true) in
-    (sym e, none_put a.h a.iu.now a.out.now e)
 
 pub returns : goal.returns
 returns c =
