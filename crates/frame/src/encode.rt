@@ -1,5 +1,5 @@
 // The frame writer: a data step and a header step.
-ghost use Rattle.std.specs.Prelude.{◌≡◌, ℕ, ◌+◌, ◌^◌, ◌≤◌, ◌<◌, List, [], ◌∷◌, length, take};
+ghost use Rattle.std.specs.Prelude.{◌≡◌, ℕ, ◌+◌, ◌^◌, ◌≤◌, ◌<◌, List, length};
 ghost use Rattle.status.specs.Result.{or_refusal};
 ghost use Rattle.frame.specs.Format.{fill_of, header_bytes, data_bytes, encode};
 ghost use Rattle.frame.specs.Write.{writable, write_answer, put, placed};
