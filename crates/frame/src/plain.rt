@@ -13,7 +13,8 @@ pub fn is_data(b: &[u8], dest: u32, source: u32, tag: u16, offset: u32) -> bool
     if (n < 28) | (0x100_0000 <= dest) | (0x100_0000 <= source) {
         return false;
     }
-    let addresses = (dest.swap_bytes() + DATA as u32) as u64 + (source.swap_bytes() as u64) * 4294967296;
+    let addresses = (dest.swap_bytes() + DATA as u32) as u64
+        + (source.swap_bytes() as u64) * 4294967296;
     let last = words::get64(b, 16);
     (n <= 1048)
         & (n % 4 == 0)

@@ -61,6 +61,8 @@ fn copy_if<const N: usize>(src: &[u8], dst: &mut [u8], i: usize, n: usize) -> us
 
 // Copies src to the front of dst, as far as dst reaches. The copy goes by blocks of constant length: of copy_from_slice
 // at any other length LLVM makes a call of memmove, and the archive for C needs no function from outside.
+// It stays a function apart: built in, it kept its callers from being built into the short paths (docs/SPEED.md).
+#[inline(never)]
 pub fn copy(src: &[u8], dst: &mut [u8])
     ensures { dst.new ≡ over (take (length dst.old) src.now) dst.old }
 {
