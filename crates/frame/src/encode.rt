@@ -46,14 +46,18 @@ fn place_data(iu: &[u8], out: &mut [u8])
     place(&[0; 3][..fill], out, 24 + n);
 }
 
-// Puts a header down, where it fits. Each word of four bytes is one store: as an array of bytes the header took 15
+// Puts a header down, where it fits. The type byte stands where an address has no byte. Each word of four bytes is one store: as an array of bytes the header took 15
 // instructions more, which is over the bar of docs/SPEED.md.
 pub(crate) fn place_header(h: Header, fill: u8, out: &mut [u8])
-    requires { (24 ≤ length out.old) × (h.dest < 2 ^ 24) × (h.source < 2 ^ 24) }
+    requires { 24 ≤ length out.old }
     ensures { out.new ≡ placed out.old 0 (header_bytes h fill) }
 {
-    words::put32(out, 0, h.dest.swap_bytes() + (h.frametype as u32));
-    words::put32(out, 4, h.source.swap_bytes());
+    words::put32(
+        out,
+        0,
+        h.dest.swap_bytes() / 256 * 256 + (h.frametype as u32),
+    );
+    words::put32(out, 4, h.source.swap_bytes() / 256 * 256);
     words::put32(
         out,
         8,

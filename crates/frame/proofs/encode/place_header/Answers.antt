@@ -2,21 +2,15 @@ use Prim.Native.Nat.{◌<◌, ◌^◌}
 use mathlib.Core.Path.{◌∙◌}
 use native.Mathlib.Omega.{arith}
 use Rattle.frame.proofs.Little.{swapped, swapped_16}
-use Rattle.frame.proofs.HeaderWords.{type_fits, laid}
+use Rattle.frame.proofs.HeaderWords.{laid}
 use Rattle.frame.proofs.encode.place_header.Goals as goal
 
 -- Each word is the one of its four bytes of the header.
 
-pub overflow_add-swap_bytes : goal.overflow_add-swap_bytes
-overflow_add-swap_bytes c =
-    let h = c.args.h in
-    let kind : h.frametype < 2 ^ 8 = omega arith in
-    omega (arith, c.swap_bytes.ensures, swapped h.dest, type_fits h.frametype h.dest kind (omega arith))
-
 pub returns : goal.returns
 returns c =
     let h = c.args.h in
-    laid h c.args.fill (omega arith) c.requires.1 c.requires.2 (omega (arith, c.flag_byte.type_inv, c.flag_byte.ensures)) (omega (arith, c.ranges)) c.args.out.now
+    laid h c.args.fill (omega arith) (omega (arith, c.flag_byte.type_inv, c.flag_byte.ensures)) (omega (arith, c.ranges)) c.args.out.now
     (c.swap_bytes.ensures ∙ swapped h.dest)
     c.put32.ensures
     (c.swap_bytes-2.ensures ∙ swapped h.source)
