@@ -1,5 +1,5 @@
 -- The RESPONSE's IU: what each kind's arm of the reader comes to.
-use Prim.Native.Nat.{ℕ, ◌≤◌}
+use Prim.Native.Nat.{ℕ}
 use mathlib.Core.List.{List}
 use mathlib.Core.Path.{◌≡◌}
 use native.Mathlib.Omega.{arith}
@@ -23,7 +23,3 @@ module _ (iu : List ℕ) (x : Result Opened) where
   pub sense_data : kind_in iu ≡ 2 → x ≡ needing (sense_fits iu) iu (sense_length iu) → x ≡ by_kind iu
   unfolding by_kind
   sense_data k e = in_false _ x _ _ (ne_eqb (kind_in iu) _ (omega arith)) (in_false _ x _ _ (ne_eqb (kind_in iu) _ (omega arith)) (in_true _ x _ _ (eq-eqb _ _ k) e))
-
-  pub reserved : 3 ≤ kind_in iu → x ≡ Result.number 34 → x ≡ by_kind iu
-  unfolding by_kind
-  reserved k e = in_false _ x _ _ (ne_eqb (kind_in iu) _ (omega arith)) (in_false _ x _ _ (ne_eqb (kind_in iu) _ (omega arith)) (in_false _ x _ _ (ne_eqb (kind_in iu) _ (omega arith)) e))

@@ -6,9 +6,9 @@ use mathlib.Core.Path.{◌≡◌, refl, sym, ap, ◌∙◌}
 use native.Mathlib.Omega.{arith}
 use lib.Dec.{leb, eqb}
 use lib.ListN.{length}
-use borrow.Author.Tests.{leb-true, eqb-true, not-true, not-false}
+use borrow.Author.Tests.{leb-true, eqb-true, not-false}
 use Rattle.status.specs.Result.{Result}
-use Rattle.status.proofs.Choose.{each, in_true, in_false}
+use Rattle.status.proofs.Choose.{each, in_true}
 use Rattle.frame.specs.Format.{fill_of, header_bytes, data_bytes, encode}
 use Rattle.frame.specs.Write.{writable, over, placed}
 use Rattle.frame.specs.Full.{full, is_full, put_full, IsTheFrame}
@@ -35,10 +35,6 @@ module _ (h : Header) (n room : ℕ) {w : Bool} (e : w ≡ writable h n) where
   unfolding is_full
   is_full_lem t = ap (λ (v : Bool). v && eqb (n % 4) 0 && leb (24 + n) room) (sym e) ∙ not-false _ t
 
-  pub not_full : not (w && eqb (n % 4) 0 && leb (24 + n) room) ≡ true → is_full h n room ≡ false
-  unfolding is_full
-  not_full t = ap (λ (v : Bool). v && eqb (n % 4) 0 && leb (24 + n) room) (sym e) ∙ not-true _ t
-
 -- without fill
 pub no_fill : (h : Header) (iu : List ℕ) → length iu % 4 ≡ 0 → encode h iu ≡ header_bytes h 0 ++ iu
 unfolding encode data_bytes
@@ -56,7 +52,7 @@ is_the_frame h iu out e =
     let a = takes h (length iu) (length out) 0 (sym k) f.taken (omega arith) iu out refl refl in
     (sym a ∙ ap (λ (n : ℕ). Result.value n) (omega arith), l)
 
--- what the code leaves: header, then IU; or nothing
+-- what the code leaves: header, then IU
 module _ (h : Header) (iu out : List ℕ) where
   pub both_put : {x y : List ℕ} → is_full h (length iu) (length out) ≡ true → x ≡ placed out 0 (header_bytes h 0) → y ≡ placed x 24 iu → y ≡ put_full h iu out
   both_put {x} {y} e ex ey =
@@ -64,6 +60,3 @@ module _ (h : Header) (iu out : List ℕ) where
       let p : placed (placed out 0 (header_bytes h 0)) 24 iu ≡ placed out 0 (header_bytes h 0 ++ iu) =
       ap (λ (k : ℕ). placed (placed out 0 (header_bytes h 0)) k iu) (omega (arith, header_length h 0)) ∙ placed_behind out (header_bytes h 0) 0 (omega arith) iu in
       in_true _ _ _ _ e (ey ∙ ap (λ (v : List ℕ). placed v 24 iu) ex ∙ p ∙ at_front _ out ∙ ap (λ (v : List ℕ). over v out) (sym (no_fill h iu f.fours)))
-
-  pub none_put : is_full h (length iu) (length out) ≡ false → out ≡ put_full h iu out
-  none_put e = in_false _ _ _ _ e refl

@@ -40,6 +40,11 @@ pub type_fits : (t x : ℕ) → t < 256 → x < 2 ^ 24 → word (digits 4 x) 0 4
 unfolding word
 type_fits t x byte small = let z : x / 256 / 256 / 256 ≡ 0 = omega arith in rw z (omega arith)
 
+-- the same of any number, its fourth byte left out
+in_its_place : (t x : ℕ) → word (digits 4 x) 0 4 / 256 * 256 + t ≡ word (t ∷ digits 3 x) 0 4
+unfolding word
+in_its_place t x = omega arith
+
 pub both_fields : (x y : ℕ) → word (digits 2 x) 0 2 + word (digits 2 y) 0 2 * 65536 ≡ word (digits 2 x ++ digits 2 y) 0 4
 unfolding word
 both_fields x y = omega arith
@@ -52,7 +57,7 @@ none : 0 ≡ word (0 ∷ 0 ∷ 0 ∷ 0 ∷ []) 0 4
 unfolding word
 none = refl
 
-module _ (h : Header) (fill : ℕ) (frametype : h.frametype < 256) (dest : h.dest < 2 ^ 24) (source : h.source < 2 ^ 24) (flags : flag_byte h.flags < 256) (fills : fill < 256) where
+module _ (h : Header) (fill : ℕ) (frametype : h.frametype < 256) (flags : flag_byte h.flags < 256) (fills : fill < 256) where
   abbrev first : List ℕ
   first = h.frametype ∷ digits 3 h.dest
 
@@ -69,8 +74,8 @@ module _ (h : Header) (fill : ℕ) (frametype : h.frametype < 256) (dest : h.des
   fifth = fourth ++ digits 2 h.tag ++ digits 2 h.tptt
 
   pub laid : (d : List ℕ) {to from flag tag tptt offset : ℕ} {u v w x y z : List ℕ} →
-      to ≡ word (digits 4 h.dest) 0 4 → u ≡ placed d 0 (little 4 (to + h.frametype)) →
-      from ≡ word (digits 4 h.source) 0 4 → v ≡ placed u 4 (little 4 from) →
+      to ≡ word (digits 4 h.dest) 0 4 → u ≡ placed d 0 (little 4 (to / 256 * 256 + h.frametype)) →
+      from ≡ word (digits 4 h.source) 0 4 → v ≡ placed u 4 (little 4 (from / 256 * 256)) →
       flag ≡ flag_byte h.flags → w ≡ placed v 8 (little 4 (flag * 65536 + fill * 16777216)) →
       x ≡ placed w 12 (little 4 0) →
       tag ≡ word (digits 2 h.tag) 0 2 → tptt ≡ word (digits 2 h.tptt) 0 2 → y ≡ placed x 16 (little 4 (tag + tptt * 65536)) →
@@ -78,8 +83,8 @@ module _ (h : Header) (fill : ℕ) (frametype : h.frametype < 256) (dest : h.des
       z ≡ placed d 0 (header_bytes h fill)
   unfolding header_bytes
   laid d to u from v flag w x tag tptt y offset z =
-      let a = ap (λ (n : ℕ). n + h.frametype) to ∙ with_type h.frametype h.dest dest in
-      let b = from ∙ sym (add-zero _) ∙ with_type 0 h.source source in
+      let a = ap (λ (n : ℕ). n / 256 * 256 + h.frametype) to ∙ in_its_place h.frametype h.dest in
+      let b = ap (λ (n : ℕ). n / 256 * 256) from ∙ sym (add-zero _) ∙ in_its_place 0 h.source in
       let c = ap (λ (n : ℕ). n * 65536 + fill * 16777216) flag ∙ flags_and_fill _ _ in
       let e = (λ i. tag i + tptt i * 65536) ∙ both_fields h.tag h.tptt in
       let p1 = behind d [] first (omega arith) a (none_placed d 0) u in

@@ -1,13 +1,14 @@
--- Little-endian words: what is read and put down again, how stores make one, and the words of big-endian numbers.
+-- Little-endian words: what is read and put down again, std's functions for them, and the words of big-endian numbers.
 use Prim.Native.Nat.{ℕ, zero, suc, ◌+◌, ◌*◌, ◌/◌, ◌%◌, ◌^◌, ◌≤◌, ◌<◌}
-use mathlib.Core.List.{List, [], ◌∷◌, append_assoc}
+use mathlib.Core.List.{List}
 use mathlib.Core.Path.{◌≡◌, refl, sym, ap, ◌∙◌}
-use native.Mathlib.Nat.{zero-add, add-zero, suc-add, mul_assoc, pow-suc, pow-succ'}
+use native.Mathlib.Nat.{zero-add, add-zero, add_assoc, suc-add, mul_assoc, pow-suc, pow-succ'}
 use native.Mathlib.Numerals.{add-one}
 use native.Mathlib.Omega.{arith}
-use lib.ListN.{length, get_or, take, drop, set}
-use lib.Seq.{drop-cons, get_or-take, sets, sets-eq}
-use Rattle.frame.specs.Write.{placed}
+use lib.ListN.{length, get_or, take, drop}
+use lib.Seq.{drop-cons, get_or-take, get_or-drop}
+use Rattle.std.specs.Int.{w16, w32, w64, from_le_bytes, to_le_bytes, swap_bytes}
+use Rattle.frame.specs.Format.{digits}
 use Rattle.frame.specs.Words.{little, word}
 use Rattle.frame.specs.RoundTrip.{Bytes}
 
@@ -49,15 +50,35 @@ word_take b i (suc n) k within = rw (get_or-take k b i 0 (omega arith), word_tak
 pub same_bytes : (b c : List ℕ) → Bytes b → Bytes c → (i n : ℕ) → i + n ≤ length b → i + n ≤ length c → word b i n ≡ word c i n → take n (drop i b) ≡ take n (drop i c)
 same_bytes b c p q i n there also e = sym (little_word b p i n there) ∙ ap (little n) e ∙ little_word c q i n also
 
--- bytes stored one by one
-pub stored : (d vs : List ℕ) (at : ℕ) → at + length vs ≤ length d → sets d at vs ≡ placed d at vs
-unfolding placed
-stored d vs at fits = sets-eq vs d at fits ∙ append_assoc (take at d) vs (drop (at + length vs) d)
+-- of what stands from i on
+pub word_drop : (b : List ℕ) (i j n : ℕ) → word (drop i b) j n ≡ word b (i + j) n
+unfolding word
+word_drop b i j zero = refl
+word_drop b i j (suc n) = rw (get_or-drop i b j 0, word_drop b i (j + 1) n, add_assoc i j 1) refl
 
--- one or two bytes of s stored at their place of d
-module _ (s d : List ℕ) (i : ℕ) where
-  pub one_stored : i + 1 ≤ length s → i + 1 ≤ length d → set d i (get_or s i 0) ≡ placed d i (take 1 (drop i s))
-  one_stored there room = rw (drop-cons s i 0 (omega arith)) (stored d (get_or s i 0 ∷ []) i (omega arith))
+-- std's words
+pub read_le : (b : List ℕ) (i : ℕ) → from_le_bytes w64 (take 8 (drop i b)) ≡ word b i 8
+unfolding word
+read_le b i =
+    let l = take 8 (drop i b) in
+    let e : from_le_bytes w64 l ≡ word l 0 8 = omega arith in
+    e ∙ word_take (drop i b) 0 8 8 (omega arith) ∙ word_drop b i 0 8 ∙ ap (λ (k : ℕ). word b k 8) (add-zero i)
 
-  pub two_stored : i + 2 ≤ length s → i + 2 ≤ length d → set (set d i (get_or s i 0)) (i + 1) (get_or s (i + 1) 0) ≡ placed d i (take 2 (drop i s))
-  two_stored there room = rw (drop-cons s i 0 (omega arith), drop-cons s (suc i) 0 (omega arith), add-one) (stored d (get_or s i 0 ∷ get_or s (suc i) 0 ∷ []) i (omega arith))
+pub written_le : (x : ℕ) → to_le_bytes w32 x ≡ little 4 x
+unfolding little
+written_le x =
+    let x2 : x / 65536 ≡ x / 256 / 256 = omega arith in
+    let x3 : x / 16777216 ≡ x / 256 / 256 / 256 = omega arith in
+    rw (x2, x3) refl
+
+-- the words whose bytes are those of a big-endian number
+pub swapped : (x : ℕ) → swap_bytes w32 x ≡ word (digits 4 x) 0 4
+unfolding word
+swapped x =
+    let x2 : x / 65536 ≡ x / 256 / 256 = omega arith in
+    let x3 : x / 16777216 ≡ x / 256 / 256 / 256 = omega arith in
+    rw (x2, x3) (omega arith)
+
+pub swapped_16 : (x : ℕ) → swap_bytes w16 x ≡ word (digits 2 x) 0 2
+unfolding word
+swapped_16 x = omega arith

@@ -1,12 +1,12 @@
 -- A part of lent bytes: none of them, or as many as were asked for; and references that show one.
-use Prim.Native.Nat.{ℕ, ◌+◌, ◌≤◌, ◌<◌}
+use Prim.Native.Nat.{ℕ, ◌+◌, ◌≤◌}
 use mathlib.Core.List.{List}
 use mathlib.Core.Path.{◌≡◌, refl, sym, ap, ◌∙◌}
 use native.Mathlib.Omega.{arith}
 use lib.ListN.{length, take, drop}
-use borrow.Author.Tests.{le-leb, lt-leb}
+use borrow.Author.Tests.{le-leb}
 use denote.Ref.{Bor}
-use Rattle.status.proofs.Choose.{in_true, in_false}
+use Rattle.status.proofs.Choose.{in_true}
 use Rattle.frame.specs.Lent.{Lent, none, part_of, within, Shows}
 
 module _ (b : List ℕ) where
@@ -15,10 +15,6 @@ module _ (b : List ℕ) where
   no_part = sym (in_true _ _ _ _ (le-leb 0 (length b) (omega arith)) refl)
 
   module _ (i n : ℕ) where
-    pub too_far : length b < i + n → part_of b i n ≡ none
-    unfolding part_of
-    too_far h = sym (in_false _ _ _ _ (lt-leb _ _ h) refl)
-
     pub whole_part : i + n ≤ length b → part_of b i n ≡ record { place = i; bytes = take n (drop i b) }
     unfolding part_of
     whole_part h = sym (in_true _ _ _ _ (le-leb _ _ h) refl)

@@ -1,6 +1,6 @@
 -- A copy into a part of a buffer, and copies one after the other.
 use Prim.Native.Nat.{ℕ, ◌+◌, ◌-◌, ◌≤◌}
-use mathlib.Core.List.{List, [], ◌∷◌, ◌++◌, append_assoc}
+use mathlib.Core.List.{List, [], ◌++◌, append_assoc}
 use mathlib.Core.Path.{◌≡◌, refl, sym, ap, ◌∙◌}
 use native.Mathlib.Nat.{zero-add, add-zero, add_assoc}
 use native.Mathlib.Omega.{arith}
@@ -8,10 +8,6 @@ use lib.ListN.{length, take, drop, length-append, length-drop, take-append-drop}
 use lib.Seq.{take-length, take_all, length-take-le, drop-append-le, drop-append-add, drop-append_seam, drop-drop, take_at, drop_at}
 use borrow.Rule.Slice.PartMut.{put_mid, mid_of, mid_len}
 use Rattle.frame.specs.Write.{over, placed}
-
-pub empty : (l : List ℕ) → length l ≡ 0 → l ≡ []
-empty [] e = refl
-empty (x ∷ xs) e = absurd (omega arith)
 
 -- what a copy of s into the part of d from a to e leaves in d
 pub copied : (d s : List ℕ) (a e : ℕ) → a + length s ≤ e → e ≤ length d → put_mid a (e - a) d (take (length s) s ++ drop (length s) (mid_of a (e - a) d)) ≡ placed d a s
@@ -24,12 +20,12 @@ copied d s a e fits within =
     sym (drop-append-le n (take (e - a) l) (drop (e - a) l) room) ∙ ap (λ (x : List ℕ). drop n x) (take-append-drop (e - a) l) ∙ drop-drop n a d in
     rw (take-length s, append_assoc s, rest) refl
 
--- the same of a part that is as long as s
-pub copied_whole : (d s : List ℕ) (a : ℕ) → put_mid a ((a + length s) - a) d s ≡ placed d a s
+-- the same of n bytes and a part that is as long
+pub put_in : (d s t : List ℕ) (a n : ℕ) → t ≡ s → length t ≡ n → put_mid a ((a + n) - a) d t ≡ placed d a s
 unfolding placed
-copied_whole d s a =
-    let n : (a + length s) - a ≡ length s = omega arith in
-    rw (n, drop-drop (length s) a d) refl
+put_in d s t a n e l =
+    let k : (a + n) - a ≡ length s = omega (arith, ap length e) in
+    rw (k, drop-drop (length s) a d, e) refl
 
 -- the same of a copy that goes as far as the part reaches
 pub copied_over : (d s : List ℕ) (a e : ℕ) → a + length s ≤ e → e ≤ length d → put_mid a (e - a) d (over (take (length (mid_of a (e - a) d)) s) (mid_of a (e - a) d)) ≡ placed d a s

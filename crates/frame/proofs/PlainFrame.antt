@@ -5,16 +5,19 @@ use mathlib.Core.Bool.{Bool, true, false, ◌&&◌, ◌||◌, false≢true}
 use mathlib.Core.Path.{◌≡◌, refl, sym, ap, subst, ◌∙◌}
 use native.Mathlib.Omega.{arith}
 use lib.Dec.{leb, ltb, eqb}
+use lib.Pointwise.{bytes_decides}
 use lib.ListN.{length, take, drop, length-drop, take-append-drop}
 use borrow.Author.Tests.{le-leb, lt-leb, lt-ltb, le-ltb, eq-eqb, leb-true, leb-false, ltb-true, ltb-false, eqb-true}
+use Rattle.std.specs.Cmp.{both_ways}
+use Rattle.std.proofs.lemmas.Bool.{or_parts}
 use Rattle.status.specs.Pick.{all}
 use Rattle.status.specs.Result.{Result}
-use Rattle.status.proofs.Choose.{each, and_true}
+use Rattle.status.proofs.Choose.{each}
 use Rattle.frame.specs.Format.{digits, field, flag_byte, header_bytes, encode}
 use Rattle.frame.specs.Write.{writable}
 use Rattle.frame.specs.Read.{fill_count, iu_of, decode}
 use Rattle.frame.specs.Words.{word}
-use Rattle.frame.specs.PlainData.{plain_header, same, plain, is_plain_data, PlainData}
+use Rattle.frame.specs.PlainData.{plain_header, plain, is_plain_data, PlainData}
 use Rattle.frame.specs.RoundTrip.{Bytes, InRange}
 use Rattle.frame.specs.declared.types.Header.{Header}
 use Rattle.frame.specs.declared.types.Parsed.{Parsed}
@@ -23,28 +26,6 @@ use Rattle.frame.proofs.Little.{word_split, word_take, word_fits, same_bytes}
 use Rattle.frame.proofs.HeaderWords.{small_bytes, with_type}
 use Rattle.frame.proofs.RoundTrip.{comes_back, accepted}
 use Rattle.frame.proofs.FullFrame.{no_fill}
-
--- ── tests ──
-both_true : (a b : Bool) → (a ≡ true → b ≡ true) → (b ≡ true → a ≡ true) → a ≡ b
-both_true true b f g = sym (f refl)
-both_true false true f g = g refl
-both_true false false f g = refl
-
-either_false : (a b : Bool) → (a || b) ≡ false → (a ≡ false) × (b ≡ false)
-either_false true b e = absurd (false≢true (sym e))
-either_false false b e = (refl, e)
-
-same_refl : (l : List ℕ) → same l l ≡ true
-same_refl [] = refl
-same_refl (x ∷ l) = rw (eq-eqb x x refl, same_refl l) refl
-
-same_true : (l m : List ℕ) → same l m ≡ true → l ≡ m
-same_true [] [] e = refl
-same_true [] (y ∷ m) e = absurd (false≢true e)
-same_true (x ∷ l) [] e = absurd (false≢true e)
-same_true (x ∷ l) (y ∷ m) e =
-    let h = and_true (eqb x y) (same l m) e in
-    λ i. eqb-true x y h.0 i ∷ same_true l m h.1 i
 
 -- ── what the test says, all bounds at once ──
 pub record Plain (b : List ℕ) (dest source tag offset : ℕ) : Type 0 where
@@ -72,13 +53,13 @@ module _ (b : List ℕ) (dest source tag offset : ℕ) where
         fours = eqb-true _ _ t.1.1.0;
         to = ltb-true _ _ t.1.1.1.0;
         from = ltb-true _ _ t.1.1.1.1.0;
-        header = same_true _ _ t.1.1.1.1.1.0;
+        header = (bytes_decides _ _).0 t.1.1.1.1.1.0;
       }
 
   gives_plain : Plain b dest source tag offset → is_plain_data b dest source tag offset ≡ true
   unfolding is_plain_data
   gives_plain p =
-      rw (le-leb 28 (length b) p.least, le-leb (length b) 1048 p.most, eq-eqb (length b % 4) 0 p.fours, lt-ltb dest (2 ^ 24) p.to, lt-ltb source (2 ^ 24) p.from, p.header) (same_refl bytes)
+      rw (le-leb 28 (length b) p.least, le-leb (length b) 1048 p.most, eq-eqb (length b % 4) 0 p.fours, lt-ltb dest (2 ^ 24) p.to, lt-ltb source (2 ^ 24) p.from, p.header) ((bytes_decides bytes bytes).1 refl)
 
   -- ── the reader ──
   module _ (small : Bytes b) (tags : tag < 2 ^ 16) (offsets : offset < 2 ^ 32) (p : Plain b dest source tag offset) where
@@ -201,7 +182,7 @@ module _ (b : List ℕ) (dest source tag offset : ℕ) (small : Bytes b) (least 
 
   pub told : {a z l sd ss st so : ℕ} → a ≡ word b 0 8 → z ≡ word b 8 8 → l ≡ word b 16 8 → sd ≡ word (digits 4 dest) 0 4 → ss ≡ word (digits 4 source) 0 4 → st ≡ word (digits 2 tag) 0 2 → so ≡ word (digits 4 offset) 0 4 →
       (leb (length b) 1048 && eqb (length b % 4) 0 && eqb a (sd + 1 + ss * 4294967296) && eqb z 0 && eqb (l % 65536) st && eqb (l / 4294967296) so) ≡ is_plain_data b dest source tag offset
-  told ea ez el esd ess est eso = rw (ea, ez, el, esd, ess, est, eso) (both_true _ _ there back)
+  told ea ez el esd ess est eso = rw (ea, ez, el, esd, ess, est, eso) (both_ways _ _ there back)
 
 -- what the early test says
 abbrev early : List ℕ → ℕ → ℕ → Bool
@@ -209,12 +190,12 @@ early b dest source = ltb (length b) 28 || leb 16777216 dest || leb 16777216 sou
 
 pub bounded : (b : List ℕ) (dest source : ℕ) → early b dest source ≡ false → (28 ≤ length b) × (dest < 2 ^ 24) × (source < 2 ^ 24)
 bounded b dest source e =
-    let p = either_false _ _ e in
-    let q = either_false _ _ p.0 in
+    let p = or_parts _ _ e in
+    let q = or_parts _ _ p.0 in
     (ltb-false _ _ q.0, leb-false _ _ q.1, leb-false _ _ p.1)
 
 pub unbounded : (b : List ℕ) (dest source tag offset : ℕ) → early b dest source ≡ true → false ≡ is_plain_data b dest source tag offset
-unbounded b dest source tag offset e = both_true false _ (λ f. absurd (false≢true f)) go
+unbounded b dest source tag offset e = both_ways false _ (λ f. absurd (false≢true f)) go
   where
     go : is_plain_data b dest source tag offset ≡ true → false ≡ true
     go f = let p = plain_gives b dest source tag offset f in rw (le-ltb (length b) 28 p.least, lt-leb 16777216 dest p.to, lt-leb 16777216 source p.from) at e

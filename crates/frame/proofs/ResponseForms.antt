@@ -22,7 +22,7 @@ use Rattle.frame.specs.ResponseForms.{front, Form, Opens, Read, NoOther}
 use Rattle.frame.proofs.ByKind as by
 use Rattle.frame.proofs.Digits.{field_digits, digits_field}
 use Rattle.frame.proofs.Parts.{whole_part}
-use Rattle.frame.proofs.Place.{empty}
+use Rattle.std.proofs.lemmas.List.{nil_from_length}
 
 -- (a): the kind's need is met
 kind_back : (bits k : ℕ) → k < 4 → (bits * 4 + k) % 4 ≡ k
@@ -82,7 +82,7 @@ module _ (iu : List ℕ) (small : Bytes iu) (least : 24 ≤ length iu) where
   unfolding pick
   none e l =
       let w : iu ≡ front byte (byte 10 / 4) 0 (status_in iu) (sense_length iu) (response_length iu) =
-      whole 0 _ _ e refl refl ∙ rw (empty (drop 24 iu) (omega (arith, length-drop 24 iu))) refl in
+      whole 0 _ _ e refl refl ∙ rw (nil_from_length (drop 24 iu) (omega (arith, length-drop 24 iu))) refl in
       rw e (subst (λ (x : List ℕ). Form x 0 (status_in iu) []) (sym w) (Form.no_data byte (byte 10 / 4) (status_in iu) (sense_length iu) (response_length iu)))
 
   response : kind_in iu ≡ 1 → response_fits iu ≡ true → Form iu (kind_in iu) (status_in iu) (sense_of (opened iu 0) iu).bytes

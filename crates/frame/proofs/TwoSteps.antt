@@ -1,4 +1,4 @@
--- The laws of the writer's two steps: specs/TwoSteps.antt has each statement. Also what a step's code shows.
+-- The laws of the writer's two steps: specs/TwoSteps.antt has each statement.
 use Prim.Native.Nat.{ℕ, ◌+◌, ◌≤◌}
 use mathlib.Core.List.{List, ◌++◌}
 use mathlib.Core.Bool.{Bool}
@@ -21,10 +21,6 @@ answer_of w n room = pick w (pick (leb n room) (Result.value n) (Result.number 3
 
 by_length : (h : Header) (iu out : List ℕ) → write_answer h iu out ≡ answer_of (writable h (length iu)) (24 + length iu + fill_of (length iu)) (length out)
 by_length h iu out = ap (λ (n : ℕ). answer_of (writable h (length iu)) n (length out)) (encode_length h iu)
-
--- what a step's code shows at each answer
-pub step_shows : (h : Header) (iu out : List ℕ) (i : ℕ) (s : List ℕ) (a : Result ℕ) (x : List ℕ) → a ≡ write_answer h iu out → x ≡ put_at i a s out → (a ≡ write_answer h iu out) × (x ≡ put_at i (write_answer h iu out) s out)
-step_shows h iu out i s a x e p = (e, p ∙ ap (λ (b : Result ℕ). put_at i b s out) e)
 
 -- either step: the bytes s at place i, within the frame
 module _ (h : Header) (iu out : List ℕ) (i : ℕ) (s : List ℕ) (within : i + length s ≤ length (encode h iu)) where
@@ -96,9 +92,6 @@ only_whether_taken h g iu out w =
     let a : write_answer h iu out ≡ write_answer g iu out = by_length h iu out ∙ ap (λ (t : Bool). answer_of t (24 + length iu + fill_of (length iu)) (length out)) w ∙ sym (by_length g iu out) in
     (a, ap (λ (o : Result ℕ). put_at 24 o (data_bytes iu) out) a)
 
--- what the writer's code shows: the header step after the data step, or a refusal
+-- what the writer's code shows: the header step after the data step
 pub both : (h : Header) (iu out : List ℕ) {x y : List ℕ} {a : Result ℕ} → x ≡ put_data h iu out → (a ≡ write_answer h iu x) × (y ≡ put_header h iu x) → (a ≡ write_answer h iu out) × (y ≡ put (write_answer h iu out) (encode h iu) out)
 both h iu out e p = let v = rw e at p in (v.0 ∙ (leave_the_answer h iu out).0, v.1 ∙ (are_the_writer h iu out).0)
-
-pub neither : (h : Header) (iu out : List ℕ) {x : List ℕ} {n : ℕ} → Result.number n ≡ write_answer h iu out → x ≡ put_data h iu out → (Result.number n ≡ write_answer h iu out) × (x ≡ put (write_answer h iu out) (encode h iu) out)
-neither h iu out e p = (e, p ∙ ap (λ (a : Result ℕ). put_at 24 a (data_bytes iu) out) (sym e) ∙ ap (λ (a : Result ℕ). put a (encode h iu) out) e)

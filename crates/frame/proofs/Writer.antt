@@ -6,13 +6,13 @@ use mathlib.Core.Path.{◌≡◌, refl, sym, ap, ◌∙◌}
 use native.Mathlib.Omega.{arith}
 use lib.ListN.{length, take, replicate, length-append, length-replicate}
 use lib.Dec.{leb}
-use borrow.Author.Tests.{le-leb, lt-leb, leb-true}
+use borrow.Author.Tests.{le-leb, leb-true}
 use Rattle.status.specs.Pick.{pick}
 use Rattle.status.specs.Result.{Result}
-use Rattle.status.proofs.Choose.{in_true, in_false, each}
+use Rattle.status.proofs.Choose.{in_true}
 use Rattle.status.proofs.OpenedCall.{differ}
 use Rattle.frame.specs.Format.{fill_of, header_bytes, data_bytes, encode}
-use Rattle.frame.specs.Write.{request, writable, write_answer, placed}
+use Rattle.frame.specs.Write.{writable, write_answer, placed}
 use Rattle.frame.specs.declared.types.Header.{Header}
 use Rattle.frame.proofs.Place.{placed_behind}
 
@@ -47,22 +47,10 @@ laid iu d y w f within ef ey ew =
     let ez : z ≡ replicate (fill_of (length iu)) 0 = zeros f (omega arith) ∙ ap (λ (k : ℕ). replicate k 0) ef in
     ew ∙ ap (λ (v : List ℕ). placed v (24 + length iu) z) ey ∙ placed_behind d iu 24 within z ∙ ap (λ (v : List ℕ). placed d 24 (iu ++ v)) ez
 
--- an IU that the writer takes
-pub short_iu : (h : Header) (n : ℕ) → writable h n ≡ true → n ≤ 1_024
-short_iu h n w = leb-true _ _ (each (request h n) w).1.1.1.1.0
-
 -- each answer, by the lengths of IU and output buffer
 module _ (h : Header) (n room : ℕ) where
   abbrev pub Answers : Result ℕ → Type 0
   Answers a = (iu out : List ℕ) → length iu ≡ n → length out ≡ room → a ≡ write_answer h iu out
-
-  pub refuses_1 : writable h n ≡ false → Answers (Result.number 1)
-  refuses_1 w iu out ei eo = in_false _ _ _ _ (ap (writable h) ei ∙ w) refl
-
-  pub refuses_3 : (f : ℕ) → f ≡ fill_of n → writable h n ≡ true → room < 24 + n + f → Answers (Result.number 3)
-  refuses_3 f ef w short iu out ei eo =
-      let s : length out < length (encode h iu) = omega (arith, encode_length h iu) in
-      in_true _ _ _ _ (ap (writable h) ei ∙ w) (in_false _ _ _ _ (lt-leb _ _ s) refl)
 
   pub takes : (f : ℕ) → f ≡ fill_of n → writable h n ≡ true → 24 + n + f ≤ room → Answers (Result.value (24 + n + f))
   takes f ef w long iu out ei eo =

@@ -1,5 +1,6 @@
 -- Plain DATA frames: no reserved bit, no flag and no fill. They are told by their first 24 bytes. What the reader gives of one is proved in proofs/PlainFrame.antt.
-use Rattle.std.specs.Prelude.{ℕ, ◌%◌, ◌^◌, ◌≤◌, List, [], ◌∷◌, Bool, true, false, ◌&&◌, ◌≡◌, length, take, drop, leb, ltb, eqb}
+use Rattle.std.specs.Prelude.{ℕ, ◌%◌, ◌^◌, ◌≤◌, List, [], ◌∷◌, Bool, false, ◌≡◌, length, take, drop, leb, ltb, eqb}
+use Rattle.std.specs.Str.{bytes_eq}
 use Rattle.status.specs.Pick.{pick, all}
 use Rattle.status.specs.Result.{Result}
 use Rattle.frame.specs.Format.{DATA, field, header_bytes}
@@ -19,12 +20,6 @@ plain_header dest source tag tptt offset =
       offset = offset;
     }
 
-abbrev pub same : List ℕ → List ℕ → Bool
-same [] [] = true
-same [] (y ∷ ys) = false
-same (x ∷ xs) [] = false
-same (x ∷ xs) (y ∷ ys) = eqb x y && same xs ys
-
 -- 28 to 1,048 bytes, a multiple of four, and the header with these addresses, tag and offset; of TPTT the frame's own
 abbrev pub plain : List ℕ → ℕ → ℕ → ℕ → ℕ → List Bool
 plain b dest source tag offset =
@@ -33,7 +28,7 @@ plain b dest source tag offset =
     eqb (length b % 4) 0 ∷
     ltb dest (2 ^ 24) ∷
     ltb source (2 ^ 24) ∷
-    same (take 24 b) (header_bytes (plain_header dest source tag (field b 18 2) offset) 0) ∷ []
+    bytes_eq (take 24 b) (header_bytes (plain_header dest source tag (field b 18 2) offset) 0) ∷ []
 
 unfoldable pub is_plain_data : List ℕ → ℕ → ℕ → ℕ → ℕ → Bool
 is_plain_data b dest source tag offset = all (plain b dest source tag offset)

@@ -11,9 +11,10 @@ fn fill_count(b: &[u8]) -> usize
     requires { 24 ≤ length b.now }
     ensures { result ≡ fill_count b.now }
 {
-    byte::low_two_bits(b[11]) as usize
+    (b[11] % 4) as usize
 }
 
+#[tactic(auto, unfolding(crate::specs::Read::header_in))]
 fn header_of(b: &[u8]) -> Header
     requires { 24 ≤ length b.now }
     ensures { result ≡ header_in b.now }
@@ -41,6 +42,7 @@ fn well_formed(b: &[u8]) -> bool
 }
 
 // Any bytes: 5, 6, else header, start and length of the IU.
+#[tactic(auto, unfolding(crate::specs::Read::decode, status::specs::Pick::pick))]
 pub fn read(b: &[u8]) -> Result<Parsed, Refusal>
     ensures { or_refusal result ≡ decode b.now }
 {

@@ -1,5 +1,5 @@
 // The frame writer: a data step and a header step.
-ghost use Rattle.std.specs.Prelude.{◌≡◌, ℕ, ◌+◌, ◌^◌, ◌≤◌, ◌<◌, List, [], ◌∷◌, length, take};
+ghost use Rattle.std.specs.Prelude.{◌≡◌, ℕ, ◌+◌, ◌^◌, ◌≤◌, ◌<◌, List, length};
 ghost use Rattle.status.specs.Result.{or_refusal};
 ghost use Rattle.frame.specs.Format.{fill_of, header_bytes, data_bytes, encode};
 ghost use Rattle.frame.specs.Write.{writable, write_answer, put, placed};
@@ -16,72 +16,23 @@ pub(crate) fn fill_of(n: usize) -> usize
     (4 - n % 4) % 4
 }
 
-pub(crate) fn head(h: Header, fill: u8) -> [u8; 24]
-    ensures { result ≡ header_bytes h fill }
-{
-    let flags = h.flags;
-    [
-        h.frametype,
-        (h.dest / 256 / 256 % 256) as u8,
-        (h.dest / 256 % 256) as u8,
-        (h.dest % 256) as u8,
-        0,
-        (h.source / 256 / 256 % 256) as u8,
-        (h.source / 256 % 256) as u8,
-        (h.source % 256) as u8,
-        0,
-        0,
-        byte::flag_byte(flags),
-        fill,
-        0,
-        0,
-        0,
-        0,
-        (h.tag / 256 % 256) as u8,
-        (h.tag % 256) as u8,
-        (h.tptt / 256 % 256) as u8,
-        (h.tptt % 256) as u8,
-        (h.offset / 256 / 256 / 256 % 256) as u8,
-        (h.offset / 256 / 256 % 256) as u8,
-        (h.offset / 256 % 256) as u8,
-        (h.offset % 256) as u8,
-    ]
-}
-
 pub(crate) fn can_write(h: Header, n: usize) -> bool
     ensures { result ≡ writable h n }
 {
-    let known = byte::known(h.frametype);
-    let flags = h.flags;
-    known & (h.dest < 0x100_0000) & (h.source < 0x100_0000) & (flags.tlr < 4) & (n <= 1024)
+    byte::known(h.frametype)
+        & (h.dest < 0x100_0000)
+        & (h.source < 0x100_0000)
+        & (h.flags.tlr < 4)
+        & (n <= 1024)
 }
 
 // Puts src down at `at`.
+#[tactic(auto, using(crate::proofs::Place::copied_over))]
 fn place(src: &[u8], dst: &mut [u8], at: usize)
     requires { at + length src.now ≤ length dst.old }
     ensures { dst.new ≡ placed dst.old at src.now }
 {
-    let past = at + src.len();
-    words::copy(src, &mut dst[at..past]);
-}
-
-// Puts n zeros down at `at`, 3 at most: each number by itself, so that no call to clear memory is made of it.
-fn clear(dst: &mut [u8], at: usize, n: usize)
-    requires { (n ≤ 3) × (at + n ≤ length dst.old) }
-    ensures { dst.new ≡ placed dst.old at (take n (0 ∷ 0 ∷ 0 ∷ [])) }
-{
-    if n == 1 {
-        place(&[0u8; 1], dst, at);
-        return;
-    }
-    if n == 2 {
-        place(&[0u8; 2], dst, at);
-        return;
-    }
-    if n == 3 {
-        place(&[0u8; 3], dst, at);
-        return;
-    }
+    words::copy(src, &mut dst[at..at + src.len()]);
 }
 
 // Puts IU and fill down behind the header's 24 bytes, where they fit.
@@ -92,42 +43,37 @@ fn place_data(iu: &[u8], out: &mut [u8])
     let n = iu.len();
     let fill = fill_of(n);
     place(iu, out, 24);
-    clear(out, 24 + n, fill);
+    place(&[0; 3][..fill], out, 24 + n);
 }
 
-// Puts a header down by words, where it fits.
-pub(crate) fn place_words(h: Header, fill: u8, out: &mut [u8])
-    requires { (24 ≤ length out.old) × (h.dest < 2 ^ 24) × (h.source < 2 ^ 24) }
+// Puts a header down, where it fits. The type byte stands where an address has no byte. Each word of four bytes is one store: as an array of bytes the header took 15
+// instructions more, which is over the bar of docs/SPEED.md.
+pub(crate) fn place_header(h: Header, fill: u8, out: &mut [u8])
+    requires { 24 ≤ length out.old }
     ensures { out.new ≡ placed out.old 0 (header_bytes h fill) }
 {
-    let flags = h.flags;
-    words::put32(out, 0, words::swap32(h.dest) + (h.frametype as u32));
-    words::put32(out, 4, words::swap32(h.source));
+    words::put32(
+        out,
+        0,
+        h.dest.swap_bytes() / 256 * 256 + (h.frametype as u32),
+    );
+    words::put32(out, 4, h.source.swap_bytes() / 256 * 256);
     words::put32(
         out,
         8,
-        (byte::flag_byte(flags) as u32) * 65536 + (fill as u32) * 16777216,
+        (byte::flag_byte(h.flags) as u32) * 65536 + (fill as u32) * 16777216,
     );
     words::put32(out, 12, 0);
     words::put32(
         out,
         16,
-        words::swap16(h.tag) + words::swap16(h.tptt) * 65536,
+        (h.tag.swap_bytes() as u32) + (h.tptt.swap_bytes() as u32) * 65536,
     );
-    words::put32(out, 20, words::swap32(h.offset));
-}
-
-// Puts the header of a frame with an IU of n bytes down, where it fits.
-fn place_header(h: Header, n: usize, out: &mut [u8])
-    requires { 24 ≤ length out.old }
-    ensures { out.new ≡ placed out.old 0 (header_bytes h (fill_of n)) }
-{
-    let fill = fill_of(n);
-    let header = head(h, fill as u8);
-    place(&header, out, 0);
+    words::put32(out, 20, h.offset.swap_bytes());
 }
 
 // 1, 3, else the frame's length, for every IU of n bytes and every output buffer of `room`.
+#[tactic(auto, using(crate::proofs::Writer::encode_length), unfolding(status::specs::Pick::pick))]
 fn answer(h: Header, n: usize, room: usize) -> Result<usize, Refusal>
     ensures { (iu out : List ℕ) → length iu ≡ n → length out ≡ room → or_refusal result ≡ write_answer h iu out }
 {
@@ -156,7 +102,7 @@ pub fn write_header(h: Header, iu: &[u8], out: &mut [u8]) -> Result<usize, Refus
 {
     let n = iu.len();
     let len = answer(h, n, out.len())?;
-    place_header(h, n, out);
+    place_header(h, fill_of(n) as u8, out);
     Ok(len)
 }
 

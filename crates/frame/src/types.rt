@@ -1,4 +1,7 @@
 // The frame types, the header of a frame, a frame read, and the XFER_RDY's IU (the RESPONSE's: status::Opened).
+
+// The five frame types. They are numbers, since a header may have any type byte: `write` and `read` refuse another
+// (specs/Write.antt, `request`; specs/Read.antt, `decode`).
 pub const DATA: u8 = 0x01;
 
 pub const XFER_RDY: u8 = 0x05;

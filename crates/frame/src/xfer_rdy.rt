@@ -8,26 +8,18 @@ use crate::types::XferRdy;
 use status::Failure;
 
 // The 12 bytes of an XFER_RDY's IU.
+#[tactic(auto, unfolding(crate::specs::XferRdy::xfer_rdy_bytes))]
 pub fn write_xfer_rdy(x: XferRdy) -> [u8; 12]
     ensures { result ≡ xfer_rdy_bytes x }
 {
-    [
-        (x.offset / 256 / 256 / 256 % 256) as u8,
-        (x.offset / 256 / 256 % 256) as u8,
-        (x.offset / 256 % 256) as u8,
-        (x.offset % 256) as u8,
-        (x.len / 256 / 256 / 256 % 256) as u8,
-        (x.len / 256 / 256 % 256) as u8,
-        (x.len / 256 % 256) as u8,
-        (x.len % 256) as u8,
-        0,
-        0,
-        0,
-        0,
-    ]
+    let mut iu = [0; 12];
+    iu[..4].copy_from_slice(&x.offset.to_be_bytes());
+    iu[4..8].copy_from_slice(&x.len.to_be_bytes());
+    iu
 }
 
 // An IU of any length: 23, 24, else offset and length.
+#[tactic(auto, unfolding(crate::specs::XferRdy::xfer_rdy_of, status::specs::Pick::pick))]
 pub fn read_xfer_rdy(iu: &[u8]) -> Result<XferRdy, Failure>
     ensures { or_failure result ≡ xfer_rdy_of iu.now }
 {

@@ -1,79 +1,30 @@
 -- After each width fewer bytes than it are left.
+use Prim.Native.Nat.{◌+◌, ◌-◌, ◌*◌, ◌/◌}
+use mathlib.Core.Path.{◌≡◌}
 use native.Mathlib.Omega.{arith}
-use Rattle.frame.proofs.Pieces.{Left, none_copied, piece, taken, passed, whole}
+use Rattle.frame.proofs.Pieces.{Left, none_copied, further, stepped, whole}
 use Rattle.frame.proofs.words.copy.Goals as goal
-use Rattle.frame.proofs.words.copy.Goals.{then-n-i-ge32, else-n-i-ge32, then-n-i-ge16, else-n-i-ge16, then-n-i-ge8, else-n-i-ge8, then-n-i-ge4, else-n-i-ge4, then-n-i-ge2, else-n-i-ge2}
 
-pub loop-i-init : goal.loop-i-init
-loop-i-init c = none_copied _ _ _ (omega arith) (omega arith)
+pub loop-k-init : goal.loop-k-init
+loop-k-init c = none_copied _ _ _ (omega arith) (omega arith)
 
-pub loop-i-preserved : goal.loop-i-preserved
-loop-i-preserved c = piece _ _ _ 64 c.loop-i.invariant c.loop-i-test.true c.copy64.auto.dst c.copy64.ensures
+pub loop-k-preserved : goal.loop-k-preserved
+loop-k-preserved c =
+    let k = c.loop-k.k in
+    let j : 64 * (k + 1) - 64 * k ≡ 64 = omega arith in
+    further _ _ _ c.loop-k.invariant (omega arith) (omega arith) c.copy_block.auto.dst (rw j c.copy_block.ensures)
 
-pub returns-then-i-n : goal.returns-then-i-n
-returns-then-i-n c =
-    let src = c.args.src.now in
-    let dst = c.args.dst.now in
-    let n = c.lesser-n.result in
-    let l64 : Left src dst n 64 c.loop-i.i c.loop-i.dst = record { copied = c.loop-i.invariant; less = c.loop-i-test.false } in
-    let l32 : Left src dst n 32 c.if-n-i-ge32.i c.if-n-i-ge32.dst =
-    elim c.if-n-i-ge32.branch [
-      | then-n-i-ge32 w ↦ taken src dst n 32 l64 w.if-n-i-ge32.true w.copy32.auto.dst w.copy32.ensures w.dst-is w.i-is
-      | else-n-i-ge32 w ↦ passed src dst n 32 l64 w.if-n-i-ge32.false w.dst-is w.i-is
-    ] in
-    let l16 : Left src dst n 16 c.if-n-i-ge16.i c.if-n-i-ge16.dst =
-    elim c.if-n-i-ge16.branch [
-      | then-n-i-ge16 w ↦ taken src dst n 16 l32 w.if-n-i-ge16.true w.copy16.auto.dst w.copy16.ensures w.dst-is w.i-is
-      | else-n-i-ge16 w ↦ passed src dst n 16 l32 w.if-n-i-ge16.false w.dst-is w.i-is
-    ] in
-    let l8 : Left src dst n 8 c.if-n-i-ge8.i c.if-n-i-ge8.dst =
-    elim c.if-n-i-ge8.branch [
-      | then-n-i-ge8 w ↦ taken src dst n 8 l16 w.if-n-i-ge8.true w.copy8.auto.dst w.copy8.ensures w.dst-is w.i-is
-      | else-n-i-ge8 w ↦ passed src dst n 8 l16 w.if-n-i-ge8.false w.dst-is w.i-is
-    ] in
-    let l4 : Left src dst n 4 c.if-n-i-ge4.i c.if-n-i-ge4.dst =
-    elim c.if-n-i-ge4.branch [
-      | then-n-i-ge4 w ↦ taken src dst n 4 l8 w.if-n-i-ge4.true w.copy4.auto.dst w.copy4.ensures w.dst-is w.i-is
-      | else-n-i-ge4 w ↦ passed src dst n 4 l8 w.if-n-i-ge4.false w.dst-is w.i-is
-    ] in
-    let l2 : Left src dst n 2 c.if-n-i-ge2.i c.if-n-i-ge2.dst =
-    elim c.if-n-i-ge2.branch [
-      | then-n-i-ge2 w ↦ taken src dst n 2 l4 w.if-n-i-ge2.true w.copy2.auto.dst w.copy2.ensures w.dst-is w.i-is
-      | else-n-i-ge2 w ↦ passed src dst n 2 l4 w.if-n-i-ge2.false w.dst-is w.i-is
-    ] in
-    let m = l2.less in
-    let last = piece src dst n 1 l2.copied (omega arith) c.copy1.auto.dst c.copy1.ensures in
-    whole src dst n c.lesser-n.ensures last (omega arith)
-
-pub returns-else-i-n : goal.returns-else-i-n
-returns-else-i-n c =
-    let src = c.args.src.now in
-    let dst = c.args.dst.now in
-    let n = c.lesser-n.result in
-    let l64 : Left src dst n 64 c.loop-i.i c.loop-i.dst = record { copied = c.loop-i.invariant; less = c.loop-i-test.false } in
-    let l32 : Left src dst n 32 c.if-n-i-ge32.i c.if-n-i-ge32.dst =
-    elim c.if-n-i-ge32.branch [
-      | then-n-i-ge32 w ↦ taken src dst n 32 l64 w.if-n-i-ge32.true w.copy32.auto.dst w.copy32.ensures w.dst-is w.i-is
-      | else-n-i-ge32 w ↦ passed src dst n 32 l64 w.if-n-i-ge32.false w.dst-is w.i-is
-    ] in
-    let l16 : Left src dst n 16 c.if-n-i-ge16.i c.if-n-i-ge16.dst =
-    elim c.if-n-i-ge16.branch [
-      | then-n-i-ge16 w ↦ taken src dst n 16 l32 w.if-n-i-ge16.true w.copy16.auto.dst w.copy16.ensures w.dst-is w.i-is
-      | else-n-i-ge16 w ↦ passed src dst n 16 l32 w.if-n-i-ge16.false w.dst-is w.i-is
-    ] in
-    let l8 : Left src dst n 8 c.if-n-i-ge8.i c.if-n-i-ge8.dst =
-    elim c.if-n-i-ge8.branch [
-      | then-n-i-ge8 w ↦ taken src dst n 8 l16 w.if-n-i-ge8.true w.copy8.auto.dst w.copy8.ensures w.dst-is w.i-is
-      | else-n-i-ge8 w ↦ passed src dst n 8 l16 w.if-n-i-ge8.false w.dst-is w.i-is
-    ] in
-    let l4 : Left src dst n 4 c.if-n-i-ge4.i c.if-n-i-ge4.dst =
-    elim c.if-n-i-ge4.branch [
-      | then-n-i-ge4 w ↦ taken src dst n 4 l8 w.if-n-i-ge4.true w.copy4.auto.dst w.copy4.ensures w.dst-is w.i-is
-      | else-n-i-ge4 w ↦ passed src dst n 4 l8 w.if-n-i-ge4.false w.dst-is w.i-is
-    ] in
-    let l2 : Left src dst n 2 c.if-n-i-ge2.i c.if-n-i-ge2.dst =
-    elim c.if-n-i-ge2.branch [
-      | then-n-i-ge2 w ↦ taken src dst n 2 l4 w.if-n-i-ge2.true w.copy2.auto.dst w.copy2.ensures w.dst-is w.i-is
-      | else-n-i-ge2 w ↦ passed src dst n 2 l4 w.if-n-i-ge2.false w.dst-is w.i-is
-    ] in
-    whole src dst n c.lesser-n.ensures l2.copied c.if-i-n.false
+pub returns : goal.returns
+returns c =
+    let s = c.args.src.now in
+    let d = c.args.dst.now in
+    let n = c.min-n.result in
+    let e : n / 64 * 64 ≡ 64 * c.loop-k.k = omega arith in
+    let l64 : Left s d n 64 (n / 64 * 64) c.loop-k.dst = record { copied = rw e c.loop-k.invariant; less = omega arith } in
+    let l32 = stepped s d n 32 l64 c.copy_if-i.ensures c.copy_if-i.auto.dst in
+    let l16 = stepped s d n 16 l32 c.copy_if-i-2.ensures c.copy_if-i-2.auto.dst in
+    let l8 = stepped s d n 8 l16 c.copy_if-i-3.ensures c.copy_if-i-3.auto.dst in
+    let l4 = stepped s d n 4 l8 c.copy_if-i-4.ensures c.copy_if-i-4.auto.dst in
+    let l2 = stepped s d n 2 l4 c.copy_if-i-5.ensures c.copy_if-i-5.auto.dst in
+    let l1 = stepped s d n 1 l2 c.copy_if.ensures c.copy_if.auto.dst in
+    whole s d n c.min-n.ensures l1
