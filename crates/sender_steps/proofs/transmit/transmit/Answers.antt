@@ -47,4 +47,4 @@ returns-in-Ok c =
     let s = a.s in
     let d = a.buffer.now in
     wrote s (sent_of s) (data_header s) (part_of s d) a.out.now
-    (rw c.sent-s.ensures (ap (λ (w : Result ℕ Refusal). answered s (sent_of s) (or_refusal w)) (sym c.in-Ok.is))) c.header.ensures (part_is s d _ c.data_length-n.ensures) c.write-written.ensures
+    (rw c.sent-s.ensures (ap (λ (w : Result ℕ Refusal). answered s (sent_of s) (or_refusal w)) (sym c.in-Ok.is))) c.header.ensures (part_is s d _ c.data_length-n.ensures) c.write.ensures
