@@ -41,7 +41,11 @@ pub fn failed(mut s: Sender, cause: Failure) -> Stepped<Sender>
 fn restart(s: Sender) -> u32
     ensures { result ≡ restart_of s }
 {
-    if s.transfer.write { s.burst.base } else { s.balance }
+    if s.transfer.write {
+        s.burst.base
+    } else {
+        s.balance
+    }
 }
 
 #[tactic(auto, unfolding(crate::specs::Confirmation::retry_of, status::specs::Pick::pick))]

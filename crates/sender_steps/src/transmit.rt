@@ -59,6 +59,7 @@ fn sent(mut s: Sender, n: u32) -> Sender
 }
 
 // A frame is due: it goes out, or the writer refuses it. s changes in place, which saves a copy of the record (docs/SPEED.md).
+#[tactic(auto, using(crate::proofs::Fits::fits, crate::proofs::Due::due), unfolding(crate::specs::Transmit::frame_of))]
 fn transmit(mut s: Sender, buffer: &[u8], out: &mut [u8]) -> Stepped<Sender>
     requires { (fits_of s (length buffer.now) ≡ true) × (waits_of s ≡ false) }
     ensures { (stepped result ≡ writes_of s buffer.now out.old) × (out.new ≡ handing (writes_of s buffer.now out.old).says (frame_of s buffer.now) out.old) }
