@@ -61,6 +61,7 @@ fn transmit(x: Responder, iu: &[u8], out: &mut [u8]) -> Stepped<Responder>
 }
 
 // 1 (also for an IU of another length than at set-up), 2; wait; 3, else a RESPONSE of that length.
+// A `match`, since what `Stepped::unless` promises says nothing of `out`.
 #[tactic(auto, unfolding(crate::specs::Transmit::next_of, status::specs::Pick::pick), using(status::proofs::OpenedCall::opened))]
 pub fn next_frame(x: Responder, iu: &[u8], out: &mut [u8]) -> Stepped<Responder>
     ensures { (stepped result ≡ next_of x iu.now out.old) × (out.new ≡ handing (next_of x iu.now out.old).says (frame_of x iu.now) out.old) }
