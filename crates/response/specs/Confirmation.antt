@@ -33,8 +33,11 @@ abbrev pub timeout_of : Responder → Left Responder
 timeout_of x = unless (confirms_of x) x (retry_of x 29)
 
 -- "A cut with none changes nothing"
+abbrev pub cut_step_of : Responder → Left Responder
+cut_step_of x = pick x.unanswered (retry_of x 30) (x saying Said.word Word.unchanged)
+
 abbrev pub cut_of : Responder → Left Responder
-cut_of x = unless (entry_of (holds_of x) x.ended) x (pick x.unanswered (retry_of x 30) (x saying Said.word Word.unchanged))
+cut_of x = unless (entry_of (holds_of x) x.ended) x (cut_step_of x)
 
 -- "31: reported by the port layer"
 abbrev pub loss_of : Responder → Left Responder

@@ -1,8 +1,6 @@
 -- "At the target a RESPONSE (IU of 24 to 1,024 bytes from the caller, else 1) has a record of its own."
 use Rattle.std.specs.Prelude.{ℕ, max, List, [], ◌∷◌, Bool, true, false, leb}
 use Rattle.status.specs.Pick.{all, ◌with◌}
-use Rattle.status.specs.Number.{refusal_number}
-use Rattle.status.specs.Answer.{says, Left, ◌saying◌}
 use Rattle.status.specs.Result.{Result, granted}
 use Rattle.transfer.specs.Limits.{limits_hold}
 use Rattle.transfer.specs.declared.Transfer.{Transfer}

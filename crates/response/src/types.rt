@@ -1,5 +1,4 @@
-// The RESPONSE's record, and what its events leave.
-use status::{Answer, Refusal, Stepped};
+// The RESPONSE's record.
 use transfer::Transfer;
 
 #[repr(C)]
@@ -12,4 +11,11 @@ pub struct Responder {
     // its confirmation is due
     pub unanswered: bool,
     pub ended: bool,
+}
+
+impl Responder {
+    // bytes of an IU
+    pub(crate) const LEN_LEAST: u32 = 24;
+
+    pub(crate) const LEN_MOST: u32 = 1024;
 }

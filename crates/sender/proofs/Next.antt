@@ -6,10 +6,8 @@ use mathlib.Core.Path.{◌≡◌, refl, sym, subst}
 use lib.ListN.{length}
 use Rattle.status.specs.Entry.{entry_of}
 use Rattle.status.specs.Pick.{pick}
-use Rattle.status.specs.Number.{refusal_number}
 use Rattle.status.specs.Answer.{Word, Said, Left, ◌saying◌}
-use Rattle.std.specs.Prelude.{Ok, Err}
-use Rattle.status.specs.declared.words.Refusal.{Refusal}
+use Rattle.std.specs.Prelude.{Ok}
 use Rattle.frame.specs.Write.{handing}
 use Rattle.frame.proofs.Hands as frame
 use Rattle.sender_steps.specs.Record.{lent_of}
@@ -20,10 +18,6 @@ use Rattle.sender_steps.specs.declared.types.Sender.{Sender}
 use Rattle.sender.proofs.Counting.{next_counts}
 
 module _ (s : Sender) (d out : List ℕ) where
-  pub next_closed : (why : Refusal) → entry_of (lent_of s (length d)) s.ended ≡ Err why → next_of s d out ≡ (s saying Said.refused (refusal_number why))
-  unfolding next_of
-  next_closed why e = rw e refl
-
   pub next_waits : entry_of (lent_of s (length d)) s.ended ≡ (Ok tt) → waits_of s ≡ true → next_of s d out ≡ (s saying Said.word Word.wait)
   unfolding next_of pick
   next_waits e w = rw (e, w) refl

@@ -2,7 +2,7 @@
 use Prim.Native.Nat.{ℕ, ◌≤◌, ◌<◌}
 use mathlib.Core.List.{List}
 use mathlib.Core.Bool.{Bool, true, false, not, false≢true}
-use mathlib.Core.Logic.{◌⊎◌, inl, inr}
+use mathlib.Core.Logic.{inl, inr}
 use mathlib.Core.Path.{◌≡◌, refl}
 use native.Mathlib.Omega.{arith}
 use lib.Dec.{leb, ltb, eqb}
@@ -18,6 +18,7 @@ use Rattle.status.proofs.OpenedCall.{open_entry, open_confirmable, confirmed}
 use Rattle.sender_steps.specs.Record.{holds_of, lent_of}
 use Rattle.sender_steps.specs.Transmit.{waits_of, frame_of, sent_of}
 use Rattle.sender.specs.Transmit.{next_of}
+use Rattle.sender.specs.Retries.{Waits}
 use Rattle.sender_steps.specs.Confirmation.{lowered_of, failed_of, retried_of, retry_of, moved_of, delivered_of, advance_of, settle_of, cause_of}
 use Rattle.sender.specs.Confirmation.{confirms_of, ack_of, nak_of, timeout_of, cut_of}
 use Rattle.sender_steps.specs.declared.types.Sender.{Sender}
@@ -25,9 +26,6 @@ use Rattle.sender_steps.proofs.Due.{Due, due}
 use Rattle.sender.proofs.Next.{next_waits, next_due}
 
 -- ── a frame asked for ──
-abbrev Waits : Sender → Type 0
-Waits s = (s.nak ≡ true) ⊎ ((s.transfer.window ≤ s.unanswered) ⊎ (s.next ≡ s.burst.end))
-
 pub data Asked (s : Sender) (d out : List ℕ) : Left Sender → Type 0 where
   waits : Waits s → Asked s d out (s saying Said.word Word.wait)
   short : Asked s d out (s saying Said.refused 3)

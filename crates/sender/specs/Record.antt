@@ -1,7 +1,6 @@
 -- The set_up for a read at the sending port.
 use Rattle.std.specs.Prelude.{List, [], ◌∷◌, Bool, not}
 use Rattle.status.specs.Pick.{all}
-use Rattle.status.specs.Number.{refusal_number}
 use Rattle.status.specs.Result.{Result, granted}
 use Rattle.transfer.specs.Limits.{past, limits_hold}
 use Rattle.transfer.specs.declared.Transfer.{Transfer}

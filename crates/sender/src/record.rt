@@ -8,19 +8,19 @@ use status::Refusal;
 use transfer::Transfer;
 
 // The target's sending end of a read: 1, else the record.
+#[tactic(auto, unfolding(status::specs::Result::granted, status::specs::Pick::pick))]
 pub fn set_up_read(t: Transfer) -> Result<Sender, Refusal>
     ensures { or_refusal result ≡ set_up_read_of t }
 {
-    let limits = t.limits_hold();
-    if limits & !t.write {
+    if t.limits_hold() & !t.write {
         let end = t.past() as u32;
-        let b = Burst {
+        let whole = Burst {
             base: t.start,
-            end: end,
+            end,
             tptt: 0,
             limit: t.limit,
         };
-        Ok(sender_steps::begin(t, b))
+        Ok(sender_steps::begin(t, whole))
     } else {
         Err(Refusal::BadRequest)
     }

@@ -1,13 +1,13 @@
 -- A frame that is due: the writer takes its header and data, and refuses only with 3.
 use Prim.Native.Nat.{ℕ, ◌≤◌, ◌<◌}
 use mathlib.Core.List.{List}
-use mathlib.Core.Bool.{Bool, true, false, ◌||◌}
-use mathlib.Core.Path.{◌≡◌, refl}
+use mathlib.Core.Bool.{true, false, ◌||◌}
+use mathlib.Core.Path.{◌≡◌}
 use native.Mathlib.Omega.{arith}
 use lib.Dec.{leb, eqb}
 use lib.ListN.{length, length-take, length-drop}
 use borrow.Author.Tests.{le-leb, lt-ltb, leb-false, eqb-false}
-use Rattle.status.proofs.OpenedCall.{differ}
+use Rattle.std.proofs.lemmas.Bool.{or_parts}
 use Rattle.frame.specs.Write.{writable}
 use Rattle.sender_steps.specs.Transmit.{waits_of, lesser, data_header, part_of}
 use Rattle.sender_steps.specs.declared.types.Sender.{Sender}
@@ -21,13 +21,10 @@ pub record Due (s : Sender) : Type 0 where
 
 pub due : (s : Sender) → waits_of s ≡ false → Due s
 unfolding waits_of
-due s e = go s.nak (leb s.transfer.window s.unanswered) (eqb s.next s.burst.end) refl refl refl e
-  where
-    go : (t u v : Bool) → s.nak ≡ t → leb s.transfer.window s.unanswered ≡ u → eqb s.next s.burst.end ≡ v → (t || u || v) ≡ false → Due s
-    go false false false p q r e = record { nak = p; window = leb-false _ _ q; next = eqb-false _ _ r }
-    go false false true p q r e = differ (cc)
-    go false true v p q r e = differ (cc)
-    go true u v p q r e = differ (cc)
+due s e =
+    let p = or_parts (s.nak || leb s.transfer.window s.unanswered) (eqb s.next s.burst.end) e in
+    let q = or_parts s.nak (leb s.transfer.window s.unanswered) p.0 in
+    record { nak = q.0; window = leb-false _ _ q.1; next = eqb-false _ _ p.1 }
 
 pub part_length : (s : Sender) (d : List ℕ) → Held s → length d ≡ s.transfer.count → length (part_of s d) ≡ lesser s
 part_length s d h e = let m = h.marks in rw (length-take, length-drop) (omega arith)

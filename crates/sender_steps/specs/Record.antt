@@ -1,7 +1,6 @@
 -- The sending port's record: the tests of number 1, and how a burst begins.
 use Rattle.std.specs.Prelude.{ℕ, ◌^◌, List, [], ◌∷◌, Bool, false, leb, ltb, eqb}
 use Rattle.status.specs.Pick.{all}
-use Rattle.status.specs.Answer.{says, Left, ◌saying◌}
 use Rattle.transfer.specs.Limits.{past, limits_hold}
 use Rattle.transfer.specs.declared.Transfer.{Transfer}
 use Rattle.sender_steps.specs.declared.types.Burst.{Burst}

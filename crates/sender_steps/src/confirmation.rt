@@ -18,8 +18,7 @@ pub fn less_one(n: u32) -> u32
 fn lowered(mut s: Sender, nak: bool) -> Sender
     ensures { result ≡ lowered_of s nak }
 {
-    let left = less_one(s.unanswered);
-    s.unanswered = left;
+    s.unanswered = less_one(s.unanswered);
     s.nak = nak;
     s
 }
@@ -38,24 +37,27 @@ pub fn failed(mut s: Sender, cause: Failure) -> Stepped<Sender>
 }
 
 // Where a retry goes on: the balance point of a read, the base of a write.
+#[tactic(auto, unfolding(status::specs::Pick::pick))]
 fn restart(s: Sender) -> u32
     ensures { result ≡ restart_of s }
 {
-    let t = s.transfer;
-    let b = s.burst;
-    if t.write { b.base } else { s.balance }
+    if s.transfer.write {
+        s.burst.base
+    } else {
+        s.balance
+    }
 }
 
+#[tactic(auto, unfolding(crate::specs::Confirmation::retry_of, status::specs::Pick::pick))]
 fn retry(mut s: Sender, cause: Failure) -> Stepped<Sender>
     ensures { stepped result ≡ retry_of s (failure_number cause) }
 {
-    let b = s.burst;
-    if s.retries < b.limit {
+    if s.retries < s.burst.limit {
         let next = restart(s);
         s.next = next;
         s.balance = next;
         s.cdp = true;
-        s.retries = s.retries + 1;
+        s.retries += 1;
         s.unanswered = 0;
         s.nak = false;
         Stepped {
@@ -68,55 +70,56 @@ fn retry(mut s: Sender, cause: Failure) -> Stepped<Sender>
 }
 
 // The balance point of a read moves to the next offset; a write's stays its base.
+#[tactic(auto, unfolding(status::specs::Pick::pick))]
 fn moved(mut s: Sender) -> Sender
     ensures { result ≡ moved_of s }
 {
-    let t = s.transfer;
-    if t.write {
-        return s;
+    if !s.transfer.write {
+        s.balance = s.next;
+        s.retries = 0;
     }
-    s.balance = s.next;
-    s.retries = 0;
     s
 }
 
 // Nothing is unanswered and no NAK pending.
+#[tactic(auto, unfolding(crate::specs::Confirmation::advance_of, status::specs::Pick::pick))]
 fn advance(s: Sender) -> Stepped<Sender>
     ensures { stepped result ≡ advance_of s }
 {
-    let mut m = moved(s);
-    let b = s.burst;
-    if s.next == b.end {
-        let t = s.transfer;
-        m.ended = !t.write;
-        return Stepped {
-            left: m,
+    let mut left = moved(s);
+    if s.next == s.burst.end {
+        left.ended = !s.transfer.write;
+        Stepped {
+            left,
             answer: Answer::Delivered(s.frames),
-        };
-    }
-    Stepped {
-        left: m,
-        answer: Answer::Taken,
+        }
+    } else {
+        Stepped {
+            left,
+            answer: Answer::Taken,
+        }
     }
 }
 
 // What ACK or NAK leave, once the count is lowered.
+#[tactic(auto, unfolding(crate::specs::Confirmation::settle_of, status::specs::Pick::pick))]
 fn settle(s: Sender) -> Stepped<Sender>
     ensures { stepped result ≡ settle_of s }
 {
     if s.unanswered != 0 {
-        return Stepped {
+        Stepped {
             left: s,
             answer: Answer::Taken,
-        };
+        }
+    } else if s.nak {
+        retry(s, Failure::NakReceived)
+    } else {
+        advance(s)
     }
-    if s.nak {
-        return retry(s, Failure::NakReceived);
-    }
-    advance(s)
 }
 
 // "by the first bad event of the attempt"
+#[tactic(auto, unfolding(status::specs::Pick::pick))]
 fn cause(s: Sender, event: Failure) -> Failure
     ensures { failure_number result ≡ cause_of s (failure_number event) }
 {
@@ -141,6 +144,5 @@ pub fn nak_step(s: Sender) -> Stepped<Sender>
 pub fn retry_step(s: Sender, event: Failure) -> Stepped<Sender>
     ensures { stepped result ≡ retry_step_of s (failure_number event) }
 {
-    let failure = cause(s, event);
-    retry(s, failure)
+    retry(s, cause(s, event))
 }

@@ -1,38 +1,33 @@
-// The record: the tests of number 1, how a burst begins, and the refusal.
+// The record: the tests of number 1, and how a burst begins.
 ghost use Rattle.std.specs.Prelude.{◌≡◌};
 ghost use Rattle.sender_steps.specs.Record.{holds_of, lent_of, beginning};
 
 use crate::types::{Burst, Sender};
-use status::{Answer, Refusal, Stepped};
 use transfer::Transfer;
 
 // Number 1 does not apply: limits, marks and counts are in order.
+#[tactic(auto, unfolding(crate::specs::Record::holds_of, crate::specs::Record::tests))]
 pub fn holds(s: Sender) -> bool
     ensures { result ≡ holds_of s }
 {
-    let t = s.transfer;
-    let b = s.burst;
-    let limits = t.limits_hold();
-    let past = t.past();
-    limits
-        & (t.start <= b.base)
-        & (b.base <= s.balance)
+    s.transfer.limits_hold()
+        & (s.transfer.start <= s.burst.base)
+        & (s.burst.base <= s.balance)
         & (s.balance <= s.next)
-        & (s.next <= b.end)
-        & ((b.end as usize) <= past)
-        & (s.unanswered <= t.window)
-        & (b.limit <= t.limit)
-        & (s.retries <= b.limit)
-        & (s.frames < 0x1000_0000_0000_0000)
+        & (s.next <= s.burst.end)
+        & ((s.burst.end as usize) <= s.transfer.past())
+        & (s.unanswered <= s.transfer.window)
+        & (s.burst.limit <= s.transfer.limit)
+        & (s.retries <= s.burst.limit)
+        & (s.frames < Sender::FRAMES_END)
 }
 
 // Number 1 does not apply, the data buffer's length included.
+#[tactic(auto, unfolding(crate::specs::Record::lent_of))]
 pub fn lent(s: Sender, n: usize) -> bool
     ensures { result ≡ lent_of s n }
 {
-    let holds = holds(s);
-    let count = s.transfer.count as usize;
-    holds & (n == count)
+    holds(s) & (n == s.transfer.count as usize)
 }
 
 // A burst of which nothing is handed out yet; whether it is in order is tested at the first call.

@@ -1,5 +1,4 @@
-// A burst, the sending port's record, and what a step leaves.
-use status::{Answer, Stepped};
+// A burst, and the sending port's record.
 use transfer::Transfer;
 
 // What one XFER_RDY asks for, or a whole read.
@@ -32,4 +31,9 @@ pub struct Sender {
     pub retries: u32,
     // frames handed out since set-up, or since the write burst began
     pub frames: u64,
+}
+
+impl Sender {
+    // 2 to the power 60: number 1 applies from there on.
+    pub(crate) const FRAMES_END: u64 = 0x1000_0000_0000_0000;
 }

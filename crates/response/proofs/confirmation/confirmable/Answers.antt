@@ -1,6 +1,0 @@
-use Rattle.response.specs.Confirmation.{confirms_of}
-use Rattle.response.proofs.confirmation.confirmable.Goals as goal
-
-pub returns : goal.returns
-unfolding confirms_of
-returns c = rw c.holds-ok.ensures at c.confirmable.ensures
