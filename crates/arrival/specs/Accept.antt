@@ -1,6 +1,7 @@
 -- "5, 6, 7, 8 for arrivals": any bytes at any role.
-use Rattle.std.specs.Prelude.{ℕ, List, Bool, true, false, not, ◌||◌, eqb}
+use Rattle.std.specs.Prelude.{ℕ, List, Bool, true, false, not, ◌||◌, eqb, Ok, Err}
 use Rattle.status.specs.Pick.{pick}
+use Rattle.status.specs.Entry.{Entry}
 use Rattle.status.specs.Number.{refusal_number}
 use Rattle.status.specs.Result.{Result}
 use Rattle.frame.specs.Format.{DATA, XFER-RDY, RESPONSE}
@@ -40,3 +41,8 @@ screened (Result.value p) role t = screen_of t (class_of role p.header.frametype
 
 unfoldable pub accept_of : Role → Transfer → List ℕ → Result Arrived
 accept_of role t f = screened (decode f) role t
+
+-- the frame, where the call is let in
+abbrev pub let_in : Entry → Result Arrived → Result Arrived
+let_in (Ok u) a = a
+let_in (Err why) a = Result.number (refusal_number why)

@@ -2,7 +2,6 @@
 use Prim.Native.Nat.{ℕ, ◌+◌, ◌≤◌, ◌<◌}
 use mathlib.Core.Bool.{Bool, true, false, ◌&&◌, ◌||◌, false≢true}
 use mathlib.Core.List.{List, []}
-use mathlib.Core.Logic.{inl, inr}
 use mathlib.Core.Path.{◌≡◌, refl, sym, ap, subst}
 use native.Mathlib.Omega.{arith}
 use lib.Dec.{eqb, ltb}
@@ -196,8 +195,8 @@ module _ (w : Writer) (f : List ℕ) where
     took_xfer_rdy k = sized (xfer_rdy_of (iu_of f)) refl
       where
         judged : (x : XferRdy) → xfer_rdy_of (iu_of f) ≡ Result.value x → (v : Disposition) → disposition_of w x (header_in f).flags.retransmit ≡ v → Finds (judged_by v w (header_in f) x)
-        judged x r (Ok Next) e t = took_burst k x r (taken_fits w x (header_in f).flags.retransmit (inl e)) (next_taken w) (λ q. absurd (not_repeats w q))
-        judged x r (Ok Repeat) e t = took_burst k x r (taken_fits w x (header_in f).flags.retransmit (inr e)) (Said.xfer_rdy Taking.repeats) (λ q. repeat_for w x (header_in f).flags.retransmit e)
+        judged x r (Ok Next) e t = took_burst k x r (taken_fits w x (header_in f).flags.retransmit (Next, e)) (next_taken w) (λ q. absurd (not_repeats w q))
+        judged x r (Ok Repeat) e t = took_burst k x r (taken_fits w x (header_in f).flags.retransmit (Repeat, e)) (Said.xfer_rdy Taking.repeats) (λ q. repeat_for w x (header_in f).flags.retransmit e)
         judged x r (Err why) e t = absurd (false≢true t)
 
         sized : (y : Result XferRdy) → xfer_rdy_of (iu_of f) ≡ y → Finds (sized_by y w (header_in f))

@@ -55,8 +55,8 @@ module _ (w : Writer) where
   judged h x = go (disposition_of w x h.flags.retransmit) refl
     where
       go : (v : Disposition) → disposition_of w x h.flags.retransmit ≡ v → Came w (judged_by v w h x)
-      go (Ok Next) e = taken h x (taken_fits w x h.flags.retransmit (inl e)) next_takes
-      go (Ok Repeat) e = taken h x (taken_fits w x h.flags.retransmit (inr e)) repeats
+      go (Ok Next) e = taken h x (taken_fits w x h.flags.retransmit (Next, e)) next_takes
+      go (Ok Repeat) e = taken h x (taken_fits w x h.flags.retransmit (Repeat, e)) repeats
       go (Err why) e = failed _
 
   xfer_rdy_lem : (h : Header) (iu : List ℕ) → Came w (xfer_rdy_taken w h iu)
