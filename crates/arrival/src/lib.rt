@@ -65,15 +65,11 @@ fn class_of(role: Role, frametype: u8) -> Class
 fn is_taken(class: Class) -> bool
     ensures { result ≡ is_taken class }
 {
-    match class {
-        Class::Data => true,
-        Class::XferRdy => true,
-        Class::Response => true,
-        Class::Other => false,
-    }
+    !matches!(class, Class::Other)
 }
 
 // 6, 7, 8.
+#[tactic(auto, unfolding(crate::specs::Accept::screen_of, status::specs::Pick::pick))]
 fn screen(t: Transfer, class: Class, p: Parsed) -> Result<Arrived, Refusal>
     ensures { or_refusal result ≡ screen_of t class p }
 {
@@ -88,7 +84,7 @@ fn screen(t: Transfer, class: Class, p: Parsed) -> Result<Arrived, Refusal>
         return Err(Refusal::UnknownTag);
     }
     Ok(Arrived {
-        class: class,
+        class,
         header: h,
         start: p.start,
         len: p.len,

@@ -17,10 +17,11 @@ use status::{Answer, Failure, Opened, Part, Refusal, Stepped};
 fn not_expected(r: Receiver, iu: &[u8]) -> Stepped<Receiver>
     ensures { stepped result ≡ not_expected_of r iu.now }
 {
-    match frame::read_xfer_rdy(iu) {
-        Err(why) => receiver_steps::failed(r, why),
-        Ok(_) => receiver_steps::failed(r, Failure::XferRdyNotExpected),
-    }
+    let why = match frame::read_xfer_rdy(iu) {
+        Err(why) => why,
+        Ok(_) => Failure::XferRdyNotExpected,
+    };
+    receiver_steps::failed(r, why)
 }
 
 // The command has ended, with what the RESPONSE says.

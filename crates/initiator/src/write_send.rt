@@ -8,7 +8,7 @@ ghost use Rattle.initiator.specs.WriteCount.{Counts};
 ghost use Rattle.initiator.specs.WriteSend.{reached_of, lent_of, held_up, begun_of, kept_of, next_of, counted_of, confirmed_of, confirms_of, acked_of, ack_of, nak_of, timeout_of, cut_of, loss_of};
 
 use crate::types::Writer;
-use crate::write_record;
+use crate::write_record::{admitted, begin, lift, writer_holds};
 use sender::Sender;
 use status::{Answer, Refusal, Stepped};
 
@@ -17,7 +17,7 @@ fn reach(w: Writer, x: Stepped<Sender>) -> Stepped<Writer>
     ensures { stepped result ≡ reached_of w (stepped x) }
 {
     let reached = w.reached.max(x.left.next);
-    write_record::lift(Writer { reached, ..w }, x)
+    lift(Writer { reached, ..w }, x)
 }
 
 // A refusal leaves the record as it was.
@@ -40,7 +40,7 @@ fn keep(w: Writer, y: Stepped<Writer>) -> Stepped<Writer>
 fn lent(w: Writer, n: usize) -> bool
     ensures { result ≡ lent_of w n }
 {
-    write_record::writer_holds(w) & (n == w.sender.transfer.count as usize)
+    writer_holds(w) & (n == w.sender.transfer.count as usize)
 }
 
 // A burst is taken, and frames of the one before are unanswered.
@@ -54,7 +54,7 @@ fn held_up(w: Writer) -> bool
 fn start(w: Writer) -> Writer
     ensures { result ≡ starts_of w }
 {
-    write_record::begin(w.sender.transfer, w.taken)
+    begin(w.sender.transfer, w.taken)
 }
 
 // The burst that was taken starts with its first frame.
@@ -111,11 +111,11 @@ fn counted(w: Writer, n: u32) -> Stepped<Writer>
 fn confirmed(w: Writer, step: Stepped<Sender>, n: u32) -> Stepped<Writer>
     ensures { stepped result ≡ confirmed_of w (stepped step) n }
 {
-    Stepped::unless(write_record::admitted(w), w, |w| {
+    Stepped::unless(admitted(w), w, |w| {
         if held_up(w) {
             counted(w, n)
         } else {
-            write_record::lift(w, step)
+            lift(w, step)
         }
     })
 }
@@ -126,7 +126,7 @@ fn confirmable(w: Writer) -> Result<(), Refusal>
     ensures { result ≡ confirms_of w }
 {
     let s = w.sender;
-    status::confirmable(write_record::writer_holds(w), s.ended, s.unanswered != 0)
+    status::confirmable(writer_holds(w), s.ended, s.unanswered != 0)
 }
 
 // The sending port's step, or, while a taken burst waits, one unanswered less.
@@ -138,7 +138,7 @@ fn acked(w: Writer) -> Stepped<Writer>
     if held_up(w) {
         counted(w, sender_steps::less_one(s.unanswered))
     } else {
-        write_record::lift(w, sender_steps::ack_step(s))
+        lift(w, sender_steps::ack_step(s))
     }
 }
 
@@ -179,7 +179,7 @@ pub fn write_connection_lost(w: Writer) -> Stepped<Writer>
 pub fn write_nexus_lost(w: Writer) -> Stepped<Writer>
     ensures { (stepped result ≡ loss_of w) × Counts w [] (stepped result) }
 {
-    Stepped::unless(write_record::admitted(w), w, |w| {
-        write_record::lift(w, sender::nexus_lost(w.sender))
+    Stepped::unless(admitted(w), w, |w| {
+        lift(w, sender::nexus_lost(w.sender))
     })
 }

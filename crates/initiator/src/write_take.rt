@@ -9,7 +9,7 @@ ghost use Rattle.initiator.specs.WriteCount.{Counts};
 ghost use Rattle.initiator.specs.WriteTake.{ended_of, failed_of, or_failed, previous, all_handed, fits_of, repeat_of, disposition_of, limit_of, asked_of, next_taken, burst_taken, xfer_rdy_taken, opened_by, response_of, taken_of, arrived_frame, write_arrival_of};
 
 use crate::types::{Writer, XferRdyDisposition};
-use crate::write_record;
+use crate::write_record::{admitted, begin, lift};
 use arrival::{Arrived, Class, Role};
 use frame::{Header, XferRdy};
 use sender::{Burst, Sender};
@@ -31,7 +31,7 @@ fn ended(w: Writer) -> Writer
 fn failed(w: Writer, why: Failure) -> Stepped<Writer>
     ensures { stepped result ≡ failed_of w (failure_number why) }
 {
-    write_record::lift(w, sender_steps::failed(w.sender, why))
+    lift(w, sender_steps::failed(w.sender, why))
 }
 
 // The previous burst is the last one taken, started or not.
@@ -147,7 +147,7 @@ fn taken(w: Writer, b: Burst, answer: Answer) -> Stepped<Writer>
     ensures { stepped result ≡ burst_taken w b (says answer) }
 {
     let left = if w.sender.unanswered == 0 {
-        write_record::begin(w.sender.transfer, b)
+        begin(w.sender.transfer, b)
     } else {
         Writer {
             pending: true,
@@ -178,10 +178,7 @@ fn xfer_rdy(w: Writer, h: Header, iu: &[u8]) -> Stepped<Writer>
     requires { limits_hold w.sender.transfer ≡ true }
     ensures { stepped result ≡ xfer_rdy_taken w h iu.now }
 {
-    match burst_of(w, h, iu) {
-        Err(why) => failed(w, why),
-        Ok(step) => step,
-    }
+    burst_of(w, h, iu).unwrap_or_else(|why| failed(w, why))
 }
 
 // The command has ended, with what the RESPONSE says.
@@ -231,7 +228,7 @@ fn take(w: Writer, a: Arrived, bytes: &[u8]) -> Stepped<Writer>
 fn arrived(w: Writer, bytes: &[u8]) -> Result<Arrived, Refusal>
     ensures { or_refusal result ≡ arrived_frame w bytes.now }
 {
-    write_record::admitted(w)?;
+    admitted(w)?;
     arrival::accept(Role::WriteInitiator, w.sender.transfer, bytes)
 }
 
