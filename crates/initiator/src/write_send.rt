@@ -5,7 +5,7 @@ ghost use Rattle.frame.specs.Write.{handing};
 ghost use Rattle.sender_steps.specs.Transmit.{frame_of, frame_step_of};
 ghost use Rattle.initiator.specs.WriteRecord.{starts_of};
 ghost use Rattle.initiator.specs.WriteCount.{Counts};
-ghost use Rattle.initiator.specs.WriteSend.{reached_of, lent_of, held_up, begun_of, kept_of, next_of, counted_of, confirmed_of, confirms_of, acked_of, ack_of, nak_of, timeout_of, cut_of, loss_of};
+ghost use Rattle.initiator.specs.WriteSend.{reached_of, lent_of, held_up, begun_of, kept_of, next_of, counted_of, confirmed_of, served_of, confirms_of, ack_of, nak_of, timeout_of, cut_of, loss_of};
 
 use crate::types::Writer;
 use crate::write_record::{admitted, begin, lift, writer_holds};
@@ -106,18 +106,24 @@ fn counted(w: Writer, n: u32) -> Stepped<Writer>
     }
 }
 
-// 1, 2; then the sending port's step, or, while a taken burst waits, the count left.
-#[tactic(auto, unfolding(crate::specs::WriteSend::confirmed_of, status::specs::Pick::pick))]
+// The sending port's step, or, while a taken burst waits, the count left.
+#[tactic(auto, unfolding(crate::specs::WriteSend::served_of, status::specs::Pick::pick))]
+fn served(w: Writer, step: Stepped<Sender>, n: u32) -> Stepped<Writer>
+    ensures { stepped result ≡ served_of w (stepped step) n }
+{
+    if held_up(w) {
+        counted(w, n)
+    } else {
+        lift(w, step)
+    }
+}
+
+// The same, after 1 and 2.
+#[tactic(auto, unfolding(crate::specs::WriteSend::confirmed_of, crate::specs::WriteSend::served_of))]
 fn confirmed(w: Writer, step: Stepped<Sender>, n: u32) -> Stepped<Writer>
     ensures { stepped result ≡ confirmed_of w (stepped step) n }
 {
-    Stepped::unless(admitted(w), w, |w| {
-        if held_up(w) {
-            counted(w, n)
-        } else {
-            lift(w, step)
-        }
-    })
+    Stepped::unless(admitted(w), w, |w| served(w, step, n))
 }
 
 // 1, 2, then 4.
@@ -129,36 +135,22 @@ fn confirmable(w: Writer) -> Result<(), Refusal>
     status::confirmable(writer_holds(w), s.ended, s.unanswered != 0)
 }
 
-// The sending port's step, or, while a taken burst waits, one unanswered less.
-#[tactic(auto, unfolding(crate::specs::WriteSend::acked_of, status::specs::Pick::pick))]
-fn acked(w: Writer) -> Stepped<Writer>
-    ensures { stepped result ≡ acked_of w }
-{
-    let s = w.sender;
-    if held_up(w) {
-        counted(w, sender_steps::less_one(s.unanswered))
-    } else {
-        lift(w, sender_steps::ack_step(s))
-    }
-}
-
 // 1, 2, 4; a burst is taken: taken; else taken, delivered, retry, or 28 (a NAK is pending).
 pub fn write_ack_received(w: Writer) -> Stepped<Writer>
     ensures { (stepped result ≡ ack_of w) × Counts w [] (stepped result) }
 {
-    Stepped::unless(confirmable(w), w, |w| acked(w))
+    Stepped::unless(confirmable(w), w, |w| {
+        let left = sender_steps::less_one(w.sender.unanswered);
+        served(w, sender_steps::ack_step(w.sender), left)
+    })
 }
 
 // 1, 2, 4; a burst is taken: taken; else taken, retry, or 28.
 pub fn write_nak_received(w: Writer) -> Stepped<Writer>
     ensures { (stepped result ≡ nak_of w) × Counts w [] (stepped result) }
 {
-    let s = w.sender;
-    confirmed(
-        w,
-        sender::nak_received(s),
-        sender_steps::less_one(s.unanswered),
-    )
+    let left = sender_steps::less_one(w.sender.unanswered);
+    confirmed(w, sender::nak_received(w.sender), left)
 }
 
 // 1, 2, 4; a burst is taken: taken; else retry, 28 (a NAK is pending) or 29.
