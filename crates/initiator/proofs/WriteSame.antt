@@ -35,7 +35,7 @@ use Rattle.initiator.specs.declared.types.XferRdyDisposition.TheVariants.{Next, 
 use Rattle.initiator.specs.declared.types.Writer.{Writer}
 use Rattle.initiator.proofs.WriteHeld.{held, lent}
 use Rattle.initiator.proofs.WriteFits.{Fits, Taken, taken_fits}
-use Rattle.std.specs.Prelude.{Ok, Err}
+use Rattle.std.specs.Prelude.{Some, Ok, Err}
 use Rattle.initiator.specs.WriteTake.{Disposition}
 
 -- ── answers, timeout and cut ──
@@ -115,7 +115,7 @@ kept_sender w y a = go (refuses y.says) refl
     go false e = refl
 
 -- ── an XFER_RDY ──
-xfer_rdy_class : (frametype : ℕ) → frametype ≡ XFER-RDY → class_of WriteInitiator frametype ≡ Class.XferRdy
+xfer_rdy_class : (frametype : ℕ) → frametype ≡ XFER-RDY → class_of WriteInitiator frametype ≡ Some Class.XferRdy
 unfolding class_of pick
 xfer_rdy_class frametype e = rw e
 
@@ -142,7 +142,7 @@ module _ (w : Writer) (h : Header) (x : XferRdy) (e : holds_of w ≡ true) (n : 
       let t : writable h (length iu) ≡ true = rw (xfer_rdy_size x) a.writes in
       let s = written_stands h iu a.range t in
       let p : take (length iu) (drop 24 (encode h iu)) ≡ iu = rw s.1 at s.2 in
-      rw (open_entry _ _ e n, written_passes w.sender.transfer WriteInitiator h iu Class.XferRdy (xfer_rdy_class h.frametype a.frametype) refl a.dest a.source a.tag a.range t, p, xfer_rdy_comes_back x a.offset a.len)
+      rw (open_entry _ _ e n, written_passes w.sender.transfer WriteInitiator h iu Class.XferRdy (xfer_rdy_class h.frametype a.frametype) a.dest a.source a.tag a.range t, p, xfer_rdy_comes_back x a.offset a.len)
 
   -- one that is taken
   took : (v : Disposition) → takes (judged_by v w h x).says ≡ true → Taken v

@@ -49,7 +49,6 @@ abbrev pub taken_of : Class → Receiver → Arrived → List ℕ → ℕ → Le
 taken_of Class.Data r a f m = arrival_of r a.header.offset a.header.flags.cdp a.len m
 taken_of Class.XferRdy r a f m = not_expected_of r (take a.len (drop a.start f))
 taken_of Class.Response r a f m = response_of r a.start a.len (take a.len (drop a.start f))
-taken_of Class.Other r a f m = r saying Said.refused 6
 
 abbrev pub arrived_by : Result Arrived → Receiver → List ℕ → ℕ → Left Receiver
 arrived_by (Result.number n) r f m = r saying Said.refused n

@@ -113,7 +113,6 @@ abbrev pub taken_of : Class → Writer → Arrived → List ℕ → Left Writer
 taken_of Class.XferRdy w a f = xfer_rdy_taken w a.header (take a.len (drop a.start f))
 taken_of Class.Response w a f = response_of w a.start a.len (take a.len (drop a.start f))
 taken_of Class.Data w a f = w saying Said.refused 6
-taken_of Class.Other w a f = w saying Said.refused 6
 
 abbrev pub arrived_by : Result Arrived → Writer → List ℕ → Left Writer
 arrived_by (Result.number n) w f = w saying Said.refused n

@@ -65,7 +65,6 @@ fn take(r: Receiver, a: Arrived, bytes: &[u8], buffer: &mut [u8]) -> Stepped<Rec
         Class::Data => receiver_steps::data_step(r, h.offset, h.flags.cdp, iu, buffer),
         Class::XferRdy => not_expected(r, iu),
         Class::Response => response(r, at, iu),
-        Class::Other => Stepped::refused(r, Refusal::UnexpectedFrameType),
     }
 }
 

@@ -219,7 +219,7 @@ fn take(w: Writer, a: Arrived, bytes: &[u8]) -> Stepped<Writer>
     match a.class {
         Class::XferRdy => xfer_rdy(w, a.header, iu),
         Class::Response => response(w, at, iu),
-        Class::Data | Class::Other => Stepped::refused(w, Refusal::UnexpectedFrameType),
+        Class::Data => Stepped::refused(w, Refusal::UnexpectedFrameType),
     }
 }
 
