@@ -20,7 +20,7 @@ use Rattle.frame.specs.XferRdy.{xfer_rdy_of}
 use Rattle.frame.specs.Response.{response_iu_of}
 use Rattle.status.specs.declared.answer.Opened.{Opened}
 use Rattle.frame.specs.declared.types.XferRdy.{XferRdy}
-use Rattle.arrival.specs.Accept.{class_of, accept_of}
+use Rattle.arrival.specs.Accept.{accept_of}
 use Rattle.arrival.specs.declared.Role.TheVariants.{WriteInitiator}
 use Rattle.arrival.specs.declared.Class.{Class}
 use Rattle.arrival.specs.declared.Arrived.{Arrived}
