@@ -4,15 +4,13 @@ use mathlib.Core.Bool.{Bool, true, false, ◌&&◌, ◌||◌}
 use mathlib.Core.Path.{◌≡◌, refl}
 use native.Mathlib.Omega.{arith}
 use lib.Dec.{eqb, ltb}
-use borrow.Author.Tests.{eqb-false, ltb-false, eq-eqb, ne_eqb}
+use borrow.Author.Tests.{eqb-false, ltb-false}
 use Rattle.status.specs.Pick.{pick}
 use Rattle.status.specs.declared.words.Failure.TheVariants.{XferRdyIncorrectWriteDataLength, XferRdyNotExpected, XferRdyRequestedOffsetError}
-use Rattle.status.proofs.Choose.{in_true, in_false}
 use Rattle.status.proofs.OpenedCall.{differ}
 use Rattle.transfer.specs.Limits.{limits_hold}
 use Rattle.transfer.proofs.Bounds.{bounds}
 use Rattle.frame.specs.declared.types.XferRdy.{XferRdy}
-use Rattle.sender_steps.specs.declared.types.Burst.{Burst}
 use Rattle.initiator.specs.WriteTake.{previous, all_handed, fits_of, repeat_of, disposition_of}
 use Rattle.initiator.specs.declared.types.XferRdyDisposition.{XferRdyDisposition}
 use Rattle.initiator.specs.declared.types.XferRdyDisposition.TheVariants.{Next, Repeat}
