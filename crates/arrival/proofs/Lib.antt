@@ -1,3 +1,4 @@
 pub mod Passed
 pub mod Screens
 pub mod Alike
+pub mod LetIn

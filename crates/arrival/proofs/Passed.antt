@@ -2,9 +2,10 @@
 use Prim.Native.Nat.{ℕ, ◌+◌, ◌-◌, ◌≤◌}
 use mathlib.Core.List.{List}
 use mathlib.Core.Bool.{Bool, true, false, not, ◌||◌}
-use mathlib.Core.Path.{◌≡◌, refl, ap, ◌∙◌}
+use mathlib.Core.Path.{◌≡◌, refl, sym, ap, ◌∙◌}
 use native.Mathlib.Omega.{arith}
 use lib.Dec.{eqb}
+use Rattle.std.specs.Prelude.{Option, Some, None}
 use lib.ListN.{length, take, drop, length-take, length-drop}
 use borrow.Author.Tests.{eq-eqb}
 use Rattle.status.specs.Pick.{pick}
@@ -19,37 +20,40 @@ use Rattle.frame.specs.declared.types.Header.{Header}
 use Rattle.frame.specs.declared.types.Parsed.{Parsed}
 use Rattle.frame.proofs.RoundTrip.{accepted, comes_back}
 use Rattle.frame.proofs.Formed.{formed}
-use Rattle.arrival.specs.Accept.{class_of, is_taken, screen_of, screened, accept_of}
+use Rattle.arrival.specs.Accept.{class_of, screen_of, screened, accept_of}
 use Rattle.arrival.specs.declared.Role.{Role}
 use Rattle.arrival.specs.declared.Class.{Class}
 use Rattle.arrival.specs.declared.Arrived.{Arrived}
 
--- the frame that the bytes f are, taken for what the role takes its type for
-abbrev pub arrived_in : Role → List ℕ → Arrived
-arrived_in role f = record { class = class_of role (header_in f).frametype; header = header_in f; start = 24; len = iu_length f }
+-- the frame that the bytes f are, taken for that class
+abbrev pub arrived_in : Class → List ℕ → Arrived
+arrived_in class f = record { class = class; header = header_in f; start = 24; len = iu_length f }
 
 pub record Passed (role : Role) (f : List ℕ) (a : Arrived) : Type 0 where
-  pub is : arrived_in role f ≡ a
-  pub taken : is_taken (class_of role (header_in f).frametype) ≡ true
+  pub is : arrived_in a.class f ≡ a
+  pub class : class_of role (header_in f).frametype ≡ Some a.class
   pub inside : 24 + iu_length f ≤ length f
 
 module _ (t : Transfer) where
   -- 6, 7 and 8 are not met
-  record Screened (k : Class) (p : Parsed) (a : Arrived) : Type 0 where
-    is : record { class = k; header = p.header; start = p.start; len = p.len } ≡ a
-    taken : is_taken k ≡ true
+  record Screened (k : Option Class) (p : Parsed) (a : Arrived) : Type 0 where
+    is : record { class = a.class; header = p.header; start = p.start; len = p.len } ≡ a
+    class : k ≡ Some a.class
     address : (not (eqb p.header.dest t.local) || not (eqb p.header.source t.remote)) ≡ false
     tag : not (eqb p.header.tag t.tag) ≡ false
 
-  screen_passed : (k : Class) (p : Parsed) (a : Arrived) → screen_of t k p ≡ Result.value a → Screened k p a
+  screen_passed : (k : Option Class) (p : Parsed) (a : Arrived) → screen_of t k p ≡ Result.value a → Screened k p a
   unfolding screen_of pick
-  screen_passed k p a e = go (is_taken k) (not (eqb p.header.dest t.local) || not (eqb p.header.source t.remote)) (not (eqb p.header.tag t.tag)) refl refl refl e
+  screen_passed None p a e = differ (cc)
+  screen_passed (Some k) p a e = go (not (eqb p.header.dest t.local) || not (eqb p.header.source t.remote)) (not (eqb p.header.tag t.tag)) refl refl e
     where
-      go : (x y z : Bool) → is_taken k ≡ x → (not (eqb p.header.dest t.local) || not (eqb p.header.source t.remote)) ≡ y → not (eqb p.header.tag t.tag) ≡ z → pick (not x) (Result.number 6) (pick y (Result.number 7) (pick z (Result.number 8) (Result.value (record { class = k; header = p.header; start = p.start; len = p.len })))) ≡ Result.value a → Screened k p a
-      go true false false b c d e = record { is = cc; taken = b; address = c; tag = d }
-      go true false true b c d e = differ (cc)
-      go true true z b c d e = differ (cc)
-      go false y z b c d e = differ (cc)
+      go : (y z : Bool) → (not (eqb p.header.dest t.local) || not (eqb p.header.source t.remote)) ≡ y → not (eqb p.header.tag t.tag) ≡ z → pick y (Result.number 7) (pick z (Result.number 8) (Result.value (record { class = k; header = p.header; start = p.start; len = p.len }))) ≡ Result.value a → Screened (Some k) p a
+      go false false c d e =
+          let v : record { class = k; header = p.header; start = p.start; len = p.len } ≡ a = cc in
+          let n : k ≡ a.class = ap (λ (b : Arrived). b.class) v in
+          record { is = ap (λ (c : Class). record { class = c; header = p.header; start = p.start; len = p.len }) (sym n) ∙ v; class = ap (λ (c : Class). Some c) n; address = c; tag = d }
+      go false true c d e = differ (cc)
+      go true z c d e = differ (cc)
 
   pub passed : (role : Role) (f : List ℕ) (a : Arrived) → accept_of role t f ≡ Result.value a → Passed role f a
   unfolding accept_of
@@ -61,25 +65,25 @@ module _ (t : Transfer) where
           let q = accepted f p d in
           let b = formed f q.form in
           let s = screen_passed (class_of role (header_in f).frametype) (parsed f) a (ap (λ (v : Parsed). screen_of t (class_of role v.header.frametype) v) q.is ∙ e) in
-          record { is = s.is; taken = s.taken; inside = omega (arith, b.least, b.fill) }
+          record { is = s.is; class = s.class; inside = omega (arith, b.least, b.fill) }
 
   -- a frame passes where one of the same form, type, addresses and tag does
-  pub same_passes : (role : Role) (f g : List ℕ) (a : Arrived) → well_formed g ≡ well_formed f → (header_in g).frametype ≡ (header_in f).frametype → (header_in g).dest ≡ (header_in f).dest → (header_in g).source ≡ (header_in f).source → (header_in g).tag ≡ (header_in f).tag → accept_of role t f ≡ Result.value a → accept_of role t g ≡ Result.value (arrived_in role g)
+  pub same_passes : (role : Role) (f g : List ℕ) (a : Arrived) → well_formed g ≡ well_formed f → (header_in g).frametype ≡ (header_in f).frametype → (header_in g).dest ≡ (header_in f).dest → (header_in g).source ≡ (header_in f).source → (header_in g).tag ≡ (header_in f).tag → accept_of role t f ≡ Result.value a → accept_of role t g ≡ Result.value (arrived_in a.class g)
   unfolding accept_of decode screen_of header_in pick
   same_passes role f g a form frametype dest source tag e = go (decode f) refl e
     where
-      go : (x : Result Parsed) → decode f ≡ x → screened x role t ≡ Result.value a → accept_of role t g ≡ Result.value (arrived_in role g)
+      go : (x : Result Parsed) → decode f ≡ x → screened x role t ≡ Result.value a → accept_of role t g ≡ Result.value (arrived_in a.class g)
       go (Result.number n) d e = differ (cc)
       go (Result.value p) d e =
           let q = accepted f p d in
           let s = screen_passed (class_of role (header_in f).frametype) (parsed f) a (ap (λ (v : Parsed). screen_of t (class_of role v.header.frametype) v) q.is ∙ e) in
-          rw (form ∙ q.form, ap is_type frametype ∙ q.frametype, ap (λ (k : ℕ). is_taken (class_of role k)) frametype ∙ s.taken, (λ i. not (eqb (dest i) t.local) || not (eqb (source i) t.remote)) ∙ s.address, ap (λ (n : ℕ). not (eqb n t.tag)) tag ∙ s.tag)
+          rw (form ∙ q.form, ap is_type frametype ∙ q.frametype, ap (λ (k : ℕ). class_of role k) frametype ∙ s.class, (λ i. not (eqb (dest i) t.local) || not (eqb (source i) t.remote)) ∙ s.address, ap (λ (n : ℕ). not (eqb n t.tag)) tag ∙ s.tag)
 
   -- a frame that was written for this port
-  module _ (role : Role) (h : Header) (iu : List ℕ) (k : Class) (e : class_of role h.frametype ≡ k) (taken : is_taken k ≡ true) (d : h.dest ≡ t.local) (s : h.source ≡ t.remote) (g : h.tag ≡ t.tag) (r : InRange h) (w : writable h (length iu) ≡ true) where
+  module _ (role : Role) (h : Header) (iu : List ℕ) (k : Class) (e : class_of role h.frametype ≡ Some k) (d : h.dest ≡ t.local) (s : h.source ≡ t.remote) (g : h.tag ≡ t.tag) (r : InRange h) (w : writable h (length iu) ≡ true) where
     pub written_passes : accept_of role t (encode h iu) ≡ Result.value (record { class = k; header = h; start = 24; len = length iu })
     unfolding accept_of screen_of pick
-    written_passes = rw ((comes_back h iu r w).0, e, taken, eq-eqb _ _ d, eq-eqb _ _ s, eq-eqb _ _ g)
+    written_passes = rw ((comes_back h iu r w).0, e, eq-eqb _ _ d, eq-eqb _ _ s, eq-eqb _ _ g)
 
 -- what was written stands in the bytes
 pub written_stands : (h : Header) (iu : List ℕ) → InRange h → writable h (length iu) ≡ true → (header_in (encode h iu) ≡ h) × (iu_length (encode h iu) ≡ length iu) × (iu_of (encode h iu) ≡ iu)

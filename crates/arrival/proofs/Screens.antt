@@ -2,15 +2,17 @@
 use Prim.Native.Nat.{ℕ}
 use mathlib.Core.List.{List}
 use mathlib.Core.Bool.{Bool, true, false, not, ◌||◌}
-use mathlib.Core.Path.{◌≡◌, sym, ap, ◌∙◌}
+use mathlib.Core.Path.{◌≡◌, refl, ◌∙◌}
 use lib.Dec.{eqb}
+use Rattle.std.specs.Prelude.{Option, Some, None}
 use Rattle.status.specs.Pick.{pick}
 use Rattle.status.specs.Result.{Result}
 use Rattle.transfer.specs.declared.Transfer.{Transfer}
 use Rattle.frame.specs.Read.{header_in, well_formed, parsed}
-use Rattle.arrival.specs.Accept.{class_of, is_taken, screen_of}
+use Rattle.arrival.specs.Accept.{class_of, by_class, screen_of}
 use Rattle.arrival.specs.declared.Role.{Role}
 use Rattle.arrival.specs.declared.Arrived.{Arrived}
+use Rattle.arrival.specs.declared.Class.{Class}
 use Rattle.arrival.proofs.Passed.{arrived_in}
 
 pub record Agree (f g : List ℕ) : Type 0 where
@@ -21,15 +23,15 @@ pub record Agree (f g : List ℕ) : Type 0 where
   pub tag : (header_in f).tag ≡ (header_in g).tag
 
 -- what a port makes of an accepted frame, by `by f`, is the same for both frames where it is so for each number and for these frames, accepted
-module _ (f g : List ℕ) (s : Agree f g) {X : Type 0} (role : Role) (t : Transfer) (by : List ℕ → Result Arrived → X) (refused : (n : ℕ) → by f (Result.number n) ≡ by g (Result.number n)) (taken : by f (Result.value (arrived_in role f)) ≡ by g (Result.value (arrived_in role g))) where
+module _ (f g : List ℕ) (s : Agree f g) {X : Type 0} (role : Role) (t : Transfer) (by : List ℕ → Result Arrived → X) (refused : (n : ℕ) → by f (Result.number n) ≡ by g (Result.number n)) (taken : (k : Class) → class_of role (header_in f).frametype ≡ Some k → by f (Result.value (arrived_in k f)) ≡ by g (Result.value (arrived_in k g))) where
   pub screens : by f (screen_of t (class_of role (header_in f).frametype) (parsed f)) ≡ by g (screen_of t (class_of role (header_in g).frametype) (parsed g))
   unfolding screen_of pick
   screens =
-      go (not (is_taken (class_of role (header_in f).frametype))) (not (eqb (header_in f).dest t.local) || not (eqb (header_in f).source t.remote)) (not (eqb (header_in f).tag t.tag))
-      ∙ (λ i. by g (pick (not (is_taken (class_of role (s.frametype i)))) (Result.number 6) (pick (not (eqb (s.dest i) t.local) || not (eqb (s.source i) t.remote)) (Result.number 7) (pick (not (eqb (s.tag i) t.tag)) (Result.number 8) (Result.value (record { class = class_of role (s.frametype i); header = header_in g; start = 24; len = (parsed g).len }))))))
+      go (class_of role (header_in f).frametype) refl (not (eqb (header_in f).dest t.local) || not (eqb (header_in f).source t.remote)) (not (eqb (header_in f).tag t.tag))
+      ∙ (λ i. by g (by_class (class_of role (s.frametype i)) (λ k. pick (not (eqb (s.dest i) t.local) || not (eqb (s.source i) t.remote)) (Result.number 7) (pick (not (eqb (s.tag i) t.tag)) (Result.number 8) (Result.value (arrived_in k g))))))
     where
-      go : (x y z : Bool) → by f (pick x (Result.number 6) (pick y (Result.number 7) (pick z (Result.number 8) (Result.value (arrived_in role f))))) ≡ by g (pick x (Result.number 6) (pick y (Result.number 7) (pick z (Result.number 8) (Result.value (record { class = class_of role (header_in f).frametype; header = header_in g; start = 24; len = (parsed g).len })))))
-      go true y z = refused 6
-      go false true z = refused 7
-      go false false true = refused 8
-      go false false false = taken ∙ ap (λ (n : ℕ). by g (Result.value (record { class = class_of role n; header = header_in g; start = 24; len = (parsed g).len }))) (sym s.frametype)
+      go : (c : Option Class) → class_of role (header_in f).frametype ≡ c → (y z : Bool) → by f (by_class c (λ k. pick y (Result.number 7) (pick z (Result.number 8) (Result.value (arrived_in k f))))) ≡ by g (by_class c (λ k. pick y (Result.number 7) (pick z (Result.number 8) (Result.value (arrived_in k g)))))
+      go None e y z = refused 6
+      go (Some k) e true z = refused 7
+      go (Some k) e false true = refused 8
+      go (Some k) e false false = taken k e

@@ -3,7 +3,7 @@
 
 ghost use Rattle.std.specs.Prelude.{◌≡◌};
 ghost use Rattle.status.specs.Result.{or_refusal};
-ghost use Rattle.arrival.specs.Accept.{class_of, is_taken, screen_of, accept_of};
+ghost use Rattle.arrival.specs.Accept.{class_of, screen_of, accept_of};
 
 use frame::{Header, Parsed};
 use status::Refusal;
@@ -24,8 +24,6 @@ pub enum Class {
     Data,
     XferRdy,
     Response,
-    // refused with 6
-    Other,
 }
 
 // A frame that has passed 5 to 8: the IU is len bytes from start.
@@ -39,48 +37,36 @@ pub struct Arrived {
 
 // One match on the type byte, by role; every other number is refused.
 #[tactic(auto, unfolding(crate::specs::Accept::class_of, status::specs::Pick::pick))]
-fn class_of(role: Role, frametype: u8) -> Class
+fn class_of(role: Role, frametype: u8) -> Option<Class>
     ensures { result ≡ class_of role frametype }
 {
     match role {
         Role::ReadInitiator => match frametype {
-            frame::DATA => Class::Data,
-            frame::XFER_RDY => Class::XferRdy,
-            frame::RESPONSE => Class::Response,
-            _ => Class::Other,
+            frame::DATA => Some(Class::Data),
+            frame::XFER_RDY => Some(Class::XferRdy),
+            frame::RESPONSE => Some(Class::Response),
+            _ => None,
         },
         Role::WriteInitiator => match frametype {
-            frame::XFER_RDY => Class::XferRdy,
-            frame::RESPONSE => Class::Response,
-            _ => Class::Other,
+            frame::XFER_RDY => Some(Class::XferRdy),
+            frame::RESPONSE => Some(Class::Response),
+            _ => None,
         },
         Role::WriteTarget => match frametype {
-            frame::DATA => Class::Data,
-            _ => Class::Other,
+            frame::DATA => Some(Class::Data),
+            _ => None,
         },
-        Role::ReadTarget => Class::Other,
-    }
-}
-
-fn is_taken(class: Class) -> bool
-    ensures { result ≡ is_taken class }
-{
-    match class {
-        Class::Data => true,
-        Class::XferRdy => true,
-        Class::Response => true,
-        Class::Other => false,
+        Role::ReadTarget => None,
     }
 }
 
 // 6, 7, 8.
-fn screen(t: Transfer, class: Class, p: Parsed) -> Result<Arrived, Refusal>
+#[tactic(auto, unfolding(crate::specs::Accept::screen_of, status::specs::Pick::pick))]
+fn screen(t: Transfer, class: Option<Class>, p: Parsed) -> Result<Arrived, Refusal>
     ensures { or_refusal result ≡ screen_of t class p }
 {
+    let class = class.ok_or(Refusal::UnexpectedFrameType)?;
     let h = p.header;
-    if !is_taken(class) {
-        return Err(Refusal::UnexpectedFrameType);
-    }
     if (h.dest != t.local) | (h.source != t.remote) {
         return Err(Refusal::WrongAddress);
     }
@@ -88,7 +74,7 @@ fn screen(t: Transfer, class: Class, p: Parsed) -> Result<Arrived, Refusal>
         return Err(Refusal::UnknownTag);
     }
     Ok(Arrived {
-        class: class,
+        class,
         header: h,
         start: p.start,
         len: p.len,

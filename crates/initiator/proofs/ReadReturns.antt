@@ -7,6 +7,8 @@ use lib.ListN.{length, take, drop}
 use Rattle.status.specs.Answer.{Left}
 use Rattle.status.specs.Result.{Result}
 use Rattle.status.proofs.Choose.{each}
+use Rattle.status.proofs.OpenedCall.{opened}
+use Rattle.arrival.proofs.LetIn.{let_in_is, let_in_by}
 use Rattle.frame.specs.Read.{header_in, iu_of}
 use Rattle.frame.specs.XferRdy.{xfer_rdy_of}
 use Rattle.frame.specs.Response.{response_iu_of}
@@ -21,7 +23,7 @@ use Rattle.receiver_steps.specs.Record.{holds_of, lent_of}
 use Rattle.receiver_steps.specs.DataFrame.{data_step_of, storing}
 use Rattle.receiver_steps.specs.declared.types.Receiver.{Receiver}
 use Rattle.receiver.proofs.Views.{step_is}
-use Rattle.initiator.specs.Read.{read_tests, read_holds_of, read_lent_of, rejected_by, not_expected_of, opened_by, response_of, taken_of}
+use Rattle.initiator.specs.Read.{read_tests, read_holds_of, read_lent_of, rejected_by, not_expected_of, opened_by, response_of, taken_of, arrived_by, arrived_frame, read_arrival_of}
 
 -- a read's record, with or without its buffer
 pub read_holds : (r : Receiver) → read_holds_of r ≡ true → (holds_of r ≡ true) × (not r.transfer.write ≡ true)
@@ -69,3 +71,16 @@ response_leaves r start len x offset iu d = go (response_iu_of x)
     go : (y : Result Opened) → d ≡ storing (opened_by y r start len).says offset iu d
     go (Result.number n) = refl
     go (Result.value o) = refl
+
+-- an arrival, tested in one with 1 and 2
+pub arrival_is : (r : Receiver) (f : List ℕ) (m : ℕ) → read_arrival_of r f m ≡ arrived_by (arrived_frame r f m) r f m
+unfolding read_arrival_of arrived_frame
+arrival_is r f m = let_in_by _ _ r (λ (x : Result Arrived). arrived_by x r f m) (λ n. refl)
+
+-- an accepted frame: 1 and 2 do not apply
+pub accepted_is : (r : Receiver) (f : List ℕ) (m : ℕ) (a : Arrived) → arrived_frame r f m ≡ Result.value a → (accept_of ReadInitiator r.transfer f ≡ Result.value a) × (lent_of r m ≡ true) × (r.ended ≡ false)
+unfolding arrived_frame
+accepted_is r f m a e =
+    let l = let_in_is _ _ a e in
+    let o = opened _ _ l.0 in
+    (l.1, (read_lent r m o.0).0, o.1)

@@ -2,7 +2,7 @@
 use Prim.Native.Nat.{ℕ}
 use mathlib.Core.Bool.{Bool, true, false}
 use mathlib.Core.List.{List}
-use mathlib.Core.Path.{◌≡◌, refl, sym, ap, ◌∙◌}
+use mathlib.Core.Path.{◌≡◌, refl}
 use lib.ListN.{length, get_or}
 use Rattle.status.specs.Entry.{entry_of}
 use Rattle.status.specs.Pick.{pick, ◌with◌}
@@ -21,6 +21,7 @@ use Rattle.frame.specs.declared.types.Header.{Header}
 use Rattle.frame.specs.declared.types.XferRdy.{XferRdy}
 use Rattle.arrival.specs.Accept.{class_of, accept_of}
 use Rattle.arrival.specs.declared.Role.TheVariants.{ReadInitiator}
+use Rattle.std.specs.Prelude.{Some}
 use Rattle.arrival.specs.declared.Class.{Class}
 use Rattle.arrival.specs.declared.Arrived.{Arrived}
 use Rattle.arrival.proofs.Passed.{passed, written_passes}
@@ -34,14 +35,14 @@ use Rattle.initiator.specs.Read.{read_holds_of, read_lent_of, rejected_by, not_e
 use Rattle.initiator.proofs.ReadReturns.{read_lent_again}
 
 -- DATA that was written for this port reaches the receiving port as it was written
-data_class : (frametype : ℕ) → frametype ≡ DATA → class_of ReadInitiator frametype ≡ Class.Data
+data_class : (frametype : ℕ) → frametype ≡ DATA → class_of ReadInitiator frametype ≡ Some Class.Data
 unfolding class_of pick
 data_class frametype e = rw e
 
 pub data_arrives : (r : Receiver) (h : Header) (iu : List ℕ) (m : ℕ) → lent_of r m ≡ true → r.transfer.write ≡ false → r.ended ≡ false → h.frametype ≡ DATA → h.dest ≡ r.transfer.local → h.source ≡ r.transfer.remote → h.tag ≡ r.transfer.tag → InRange h → writable h (length iu) ≡ true → read_arrival_of r (encode h iu) m ≡ arrival_of r h.offset h.flags.cdp (length iu) m
 unfolding read_arrival_of
 data_arrives r h iu m e v n k d s g i w =
-    rw (open_entry _ _ (read_lent_again r m e v) n, written_passes r.transfer ReadInitiator h iu Class.Data (data_class h.frametype k) refl d s g i w)
+    rw (open_entry _ _ (read_lent_again r m e v) n, written_passes r.transfer ReadInitiator h iu Class.Data (data_class h.frametype k) d s g i w)
 
 -- ── what holds of every arrival ──
 module _ (P : Left Receiver → Type 0) (r : Receiver) (f : List ℕ) (m : ℕ)
@@ -64,7 +65,6 @@ module _ (P : Left Receiver → Type 0) (r : Receiver) (f : List ℕ) (m : ℕ)
   class_gives Class.Data a = arrived a.header.offset a.header.flags.cdp a.len
   class_gives Class.XferRdy a = rejected_gives (xfer_rdy_of _)
   class_gives Class.Response a = response_gives a.start a.len _
-  class_gives Class.Other a = refused 6
 
   pub arrival_gives : P (read_arrival_of r f m)
   unfolding read_arrival_of
@@ -113,5 +113,7 @@ module _ (r : Receiver) where
       go : (x : Result Arrived) → accept_of ReadInitiator r.transfer f ≡ x → Plain (arrived_by x r f m)
       go (Result.number n) q = refl
       go (Result.value a) q =
-          let k : a.class ≡ Class.Response = sym (ap (λ (b : Arrived). b.class) (passed r.transfer ReadInitiator f a q).is) ∙ rw e in
+          let c = (passed r.transfer ReadInitiator f a q).class in
+          let s : class_of ReadInitiator (header_in f).frametype ≡ Some Class.Response = rw e in
+          let k : a.class ≡ Class.Response = cc in
           rw k (opened a.start a.len (response_iu_of _))

@@ -41,7 +41,7 @@ use Rattle.initiator.specs.WriteRecord.{holds_of}
 use Rattle.initiator.specs.Sense.{Stands, ReadStands, WriteStands, Comes, ReadOpens, WriteOpens}
 use Rattle.initiator.specs.declared.types.XferRdyDisposition.TheVariants.{Next, Repeat}
 use Rattle.initiator.specs.declared.types.Writer.{Writer}
-use Rattle.std.specs.Prelude.{Ok, Err}
+use Rattle.std.specs.Prelude.{Some, Ok, Err}
 use Rattle.initiator.specs.WriteTake.{Disposition}
 
 -- the IU of a frame that has passed 5 to 8 is as long as it says
@@ -56,9 +56,9 @@ module _ (w : Writer) (f : List ℕ) where
   abbrev Finds : Left Writer → Type 0
   Finds x = Stands x.says f
 
-  taken : (p : Passed WriteInitiator f (arrived_in WriteInitiator f)) (k : Class) → Finds (write.taken_of k w (arrived_in WriteInitiator f) f)
+  taken : (k : Class) (p : Passed WriteInitiator f (arrived_in k f)) → Finds (write.taken_of k w (arrived_in k f) f)
   unfolding write.xfer_rdy_taken write.burst_taken write.next_taken write.response_of
-  taken p Class.XferRdy = sized (xfer_rdy_of (iu_of f))
+  taken Class.XferRdy p = sized (xfer_rdy_of (iu_of f))
     where
       judged : (x : XferRdy) (v : Disposition) → Finds (write.judged_by v w (header_in f) x)
       judged x (Ok Next) = tt
@@ -68,13 +68,12 @@ module _ (w : Writer) (f : List ℕ) where
       sized : (y : Result XferRdy) → Finds (write.sized_by y w (header_in f))
       sized (Result.number n) = tt
       sized (Result.value x) = judged x (write.disposition_of w x (header_in f).flags.retransmit)
-  taken p Class.Response = opened (response_iu_of (iu_of f)) refl
+  taken Class.Response p = opened (response_iu_of (iu_of f)) refl
     where
       opened : (y : Result Opened) → response_iu_of (iu_of f) ≡ y → Finds (write.opened_by y w 24 (iu_length f))
       opened (Result.number n) e = tt
       opened (Result.value o) e = (refl, stands_there f p, whole WriteInitiator f _ p, e)
-  taken p Class.Data = tt
-  taken p Class.Other = tt
+  taken Class.Data p = tt
 
 pub write_stands : WriteStands
 unfolding write.write_arrival_of
@@ -84,7 +83,7 @@ write_stands w f = unless_gives (Finds w f) (entry_of (holds_of w) w.sender.ende
     go (Result.number n) q = tt
     go (Result.value a) q =
         let p = passed w.sender.transfer WriteInitiator f a q in
-        subst (λ (b : Arrived). Passed WriteInitiator f b → Finds w f (write.taken_of b.class w b f)) p.is (λ p. taken w f p (class_of WriteInitiator (header_in f).frametype)) p
+        subst (λ (b : Arrived). Passed WriteInitiator f b → Finds w f (write.taken_of b.class w b f)) p.is (λ p. taken w f a.class p) p
 
 module _ (r : Receiver) (f : List ℕ) (m : ℕ) where
   abbrev Found : Left Receiver → Type 0
@@ -102,20 +101,19 @@ module _ (r : Receiver) (f : List ℕ) (m : ℕ) where
       go (views.Arrived.skipped i s) = tt
       go (views.Arrived.stored i s) = picked (λ (a : Said). Stands a f) (eqb (max r.filled (offset + n)) r.end) Said.received Said.stored tt tt
 
-  arrived : (p : Passed ReadInitiator f (arrived_in ReadInitiator f)) (k : Class) → Found (read.taken_of k r (arrived_in ReadInitiator f) f m)
+  arrived : (k : Class) (p : Passed ReadInitiator f (arrived_in k f)) → Found (read.taken_of k r (arrived_in k f) f m)
   unfolding read.not_expected_of read.response_of
-  arrived p Class.Data = data_found (header_in f).offset (header_in f).flags.cdp (iu_length f)
-  arrived p Class.XferRdy = rejected (xfer_rdy_of (iu_of f))
+  arrived Class.Data p = data_found (header_in f).offset (header_in f).flags.cdp (iu_length f)
+  arrived Class.XferRdy p = rejected (xfer_rdy_of (iu_of f))
     where
       rejected : (y : Result XferRdy) → Found (read.rejected_by y r)
       rejected (Result.number n) = tt
       rejected (Result.value x) = tt
-  arrived p Class.Response = opened (response_iu_of (iu_of f)) refl
+  arrived Class.Response p = opened (response_iu_of (iu_of f)) refl
     where
       opened : (y : Result Opened) → response_iu_of (iu_of f) ≡ y → Found (read.opened_by y r 24 (iu_length f))
       opened (Result.number n) e = tt
       opened (Result.value o) e = (refl, stands_there f p, whole ReadInitiator f _ p, e)
-  arrived p Class.Other = tt
 
 pub read_stands : ReadStands
 unfolding read.read_arrival_of
@@ -125,10 +123,10 @@ read_stands r f m = unless_gives (Found r f m) (entry_of (read.read_lent_of r m)
     go (Result.number n) q = tt
     go (Result.value a) q =
         let p = passed r.transfer ReadInitiator f a q in
-        subst (λ (b : Arrived). Passed ReadInitiator f b → Found r f m (read.taken_of b.class r b f m)) p.is (λ p. arrived r f m p (class_of ReadInitiator (header_in f).frametype)) p
+        subst (λ (b : Arrived). Passed ReadInitiator f b → Found r f m (read.taken_of b.class r b f m)) p.is (λ p. arrived r f m a.class p) p
 
 -- (b)
-response_class : (role : Role) (frametype : ℕ) → (role ≡ ReadInitiator) ⊎ (role ≡ WriteInitiator) → frametype ≡ RESPONSE → class_of role frametype ≡ Class.Response
+response_class : (role : Role) (frametype : ℕ) → (role ≡ ReadInitiator) ⊎ (role ≡ WriteInitiator) → frametype ≡ RESPONSE → class_of role frametype ≡ Some Class.Response
 unfolding class_of pick
 response_class role frametype (inl e) k = rw (e, k)
 response_class role frametype (inr e) k = rw (e, k)
@@ -145,11 +143,11 @@ unfolding read.read_arrival_of read.response_of
 read_opens r h iu m k s d e n c form =
     let i = stands r.transfer h iu c in
     let o = opens iu k s d form in
-    (rw (open_entry _ _ e n, written_passes r.transfer ReadInitiator h iu Class.Response (response_class ReadInitiator h.frametype (inl refl) c.frametype) refl c.dest c.source c.tag c.range c.written, i.0, o.0), rw i.1 o.1)
+    (rw (open_entry _ _ e n, written_passes r.transfer ReadInitiator h iu Class.Response (response_class ReadInitiator h.frametype (inl refl) c.frametype) c.dest c.source c.tag c.range c.written, i.0, o.0), rw i.1 o.1)
 
 pub write_opens : WriteOpens
 unfolding write.write_arrival_of write.response_of
 write_opens w h iu k s d e n c form =
     let i = stands w.sender.transfer h iu c in
     let o = opens iu k s d form in
-    (rw (open_entry _ _ e n, written_passes w.sender.transfer WriteInitiator h iu Class.Response (response_class WriteInitiator h.frametype (inr refl) c.frametype) refl c.dest c.source c.tag c.range c.written, i.0, o.0), rw i.1 o.1)
+    (rw (open_entry _ _ e n, written_passes w.sender.transfer WriteInitiator h iu Class.Response (response_class WriteInitiator h.frametype (inr refl) c.frametype) c.dest c.source c.tag c.range c.written, i.0, o.0), rw i.1 o.1)

@@ -1,20 +1,18 @@
 -- An XFER_RDY that is taken fits: it asks for a byte at least, within the byte count.
 use Prim.Native.Nat.{◌+◌, ◌^◌, ◌≤◌, ◌<◌}
 use mathlib.Core.Bool.{Bool, true, false, ◌&&◌, ◌||◌}
-use mathlib.Core.Logic.{◌⊎◌, inl, inr}
 use mathlib.Core.Path.{◌≡◌, refl}
 use native.Mathlib.Omega.{arith}
 use lib.Dec.{eqb, ltb}
-use borrow.Author.Tests.{eqb-false, ltb-false, eq-eqb, ne_eqb}
+use borrow.Author.Tests.{eqb-false, ltb-false}
 use Rattle.status.specs.Pick.{pick}
 use Rattle.status.specs.declared.words.Failure.TheVariants.{XferRdyIncorrectWriteDataLength, XferRdyNotExpected, XferRdyRequestedOffsetError}
-use Rattle.status.proofs.Choose.{in_true, in_false}
 use Rattle.status.proofs.OpenedCall.{differ}
 use Rattle.transfer.specs.Limits.{limits_hold}
 use Rattle.transfer.proofs.Bounds.{bounds}
 use Rattle.frame.specs.declared.types.XferRdy.{XferRdy}
-use Rattle.sender_steps.specs.declared.types.Burst.{Burst}
 use Rattle.initiator.specs.WriteTake.{previous, all_handed, fits_of, repeat_of, disposition_of}
+use Rattle.initiator.specs.declared.types.XferRdyDisposition.{XferRdyDisposition}
 use Rattle.initiator.specs.declared.types.XferRdyDisposition.TheVariants.{Next, Repeat}
 use Rattle.initiator.specs.declared.types.Writer.{Writer}
 use Rattle.std.specs.Prelude.{Ok, Err}
@@ -25,7 +23,7 @@ pub record Fits (w : Writer) (x : XferRdy) : Type 0 where
   pub most : x.offset + x.len ≤ w.sender.transfer.count
 
 abbrev pub Taken : Disposition → Type 0
-Taken v = (v ≡ (Ok Next)) ⊎ (v ≡ (Ok Repeat))
+Taken v = (d : XferRdyDisposition) × (v ≡ Ok d)
 
 fits : (w : Writer) (x : XferRdy) (v : Disposition) → Taken (fits_of w x v) → Fits w x
 unfolding fits_of pick
@@ -33,19 +31,8 @@ fits w x v e = go (eqb x.len 0) (ltb w.sender.transfer.count (x.offset + x.len))
   where
     go : (t u : Bool) → eqb x.len 0 ≡ t → ltb w.sender.transfer.count (x.offset + x.len) ≡ u → Taken (pick (t || u) (Err XferRdyIncorrectWriteDataLength) v) → Fits w x
     go false false p q e = omega (arith, eqb-false x.len 0 p, ltb-false w.sender.transfer.count (x.offset + x.len) q)
-    go false true p q (inl e) = differ (cc)
-    go false true p q (inr e) = differ (cc)
-    go true u p q (inl e) = differ (cc)
-    go true u p q (inr e) = differ (cc)
-
--- by what the code compares: p is the previous burst
-pub same_length : (w : Writer) (x : XferRdy) (r : Disposition) (p : Burst) → p ≡ previous w → p.base + x.len ≡ p.end → r ≡ fits_of w x (Ok Repeat) → r ≡ repeat_of w x
-unfolding repeat_of
-same_length w x r p e l q = in_true _ _ _ _ (eq-eqb _ _ (rw e at l)) q
-
-pub other_length : (w : Writer) (x : XferRdy) (p : Burst) → p ≡ previous w → (p.base + x.len ≡ p.end → ⊥) → Err XferRdyIncorrectWriteDataLength ≡ repeat_of w x
-unfolding repeat_of
-other_length w x p e l = in_false _ _ _ _ (ne_eqb _ _ (rw e at l)) refl
+    go false true p q (d, e) = differ (cc)
+    go true u p q (d, e) = differ (cc)
 
 repeat_fits : (w : Writer) (x : XferRdy) → Taken (repeat_of w x) → Fits w x
 unfolding repeat_of pick
@@ -53,8 +40,7 @@ repeat_fits w x e = go (eqb ((previous w).base + x.len) (previous w).end) e
   where
     go : (t : Bool) → Taken (pick t (fits_of w x (Ok Repeat)) (Err XferRdyIncorrectWriteDataLength)) → Fits w x
     go true e = fits w x (Ok Repeat) e
-    go false (inl e) = differ (cc)
-    go false (inr e) = differ (cc)
+    go false (d, e) = differ (cc)
 
 pub taken_fits : (w : Writer) (x : XferRdy) (retransmit : Bool) → Taken (disposition_of w x retransmit) → Fits w x
 unfolding disposition_of pick
@@ -63,10 +49,8 @@ taken_fits w x retransmit e = go (retransmit && eqb x.offset (previous w).base &
     go : (t u v : Bool) → Taken (pick t (repeat_of w x) (pick u (pick v (fits_of w x (Ok Next)) (Err XferRdyNotExpected)) (Err XferRdyRequestedOffsetError))) → Fits w x
     go true u v e = repeat_fits w x e
     go false true true e = fits w x (Ok Next) e
-    go false true false (inl e) = differ (cc)
-    go false true false (inr e) = differ (cc)
-    go false false v (inl e) = differ (cc)
-    go false false v (inr e) = differ (cc)
+    go false true false (d, e) = differ (cc)
+    go false false v (d, e) = differ (cc)
 
 -- and its end is a number of 32 bits
 pub end_fits : (w : Writer) (x : XferRdy) (retransmit : Bool) → limits_hold w.sender.transfer ≡ true → Taken (disposition_of w x retransmit) → x.offset + x.len < 2 ^ 32

@@ -2,7 +2,6 @@
 use Prim.Native.Nat.{ℕ, ◌+◌, ◌≤◌, ◌<◌}
 use mathlib.Core.Bool.{Bool, true, false, ◌&&◌, ◌||◌, false≢true}
 use mathlib.Core.List.{List, []}
-use mathlib.Core.Logic.{inl, inr}
 use mathlib.Core.Path.{◌≡◌, refl, sym, ap, subst}
 use native.Mathlib.Omega.{arith}
 use lib.Dec.{eqb, ltb}
@@ -16,12 +15,12 @@ use Rattle.status.specs.declared.words.Failure.TheVariants.{XferRdyIncorrectWrit
 use Rattle.status.proofs.Choose.{and_true}
 use Rattle.status.proofs.OpenedCall.{differ}
 use Rattle.status.proofs.Leaves.{picked}
-use Rattle.frame.specs.Read.{header_in, iu_of}
+use Rattle.frame.specs.Read.{header_in, iu_of, iu_length}
 use Rattle.frame.specs.XferRdy.{xfer_rdy_of}
 use Rattle.frame.specs.Response.{response_iu_of}
 use Rattle.status.specs.declared.answer.Opened.{Opened}
 use Rattle.frame.specs.declared.types.XferRdy.{XferRdy}
-use Rattle.arrival.specs.Accept.{class_of, accept_of}
+use Rattle.arrival.specs.Accept.{accept_of}
 use Rattle.arrival.specs.declared.Role.TheVariants.{WriteInitiator}
 use Rattle.arrival.specs.declared.Class.{Class}
 use Rattle.arrival.specs.declared.Arrived.{Arrived}
@@ -168,8 +167,7 @@ not_repeats w = go (reported_of w)
 -- what the bytes f ask for, and the record that they leave
 pub record Took (w : Writer) (f : List ℕ) (z : Left Writer) : Type 0 where
   pub asked : XferRdy
-  pub accepted : accept_of WriteInitiator w.sender.transfer f ≡ Result.value (arrived_in WriteInitiator f)
-  pub class : class_of WriteInitiator (header_in f).frametype ≡ Class.XferRdy
+  pub accepted : accept_of WriteInitiator w.sender.transfer f ≡ Result.value (arrived_in Class.XferRdy f)
   pub reads : xfer_rdy_of (iu_of f) ≡ Result.value asked
   pub fits : Fits w asked
   pub repeat : z.says ≡ Said.xfer_rdy Taking.repeats → For w asked
@@ -180,40 +178,36 @@ module _ (w : Writer) (f : List ℕ) where
   abbrev Finds : Left Writer → Type 0
   Finds z = takes z.says ≡ true → Took w f z
 
-  abbrev from : Arrived
-  from = arrived_in WriteInitiator f
-
-  module _ (p : accept_of WriteInitiator w.sender.transfer f ≡ Result.value from) where
-    took_burst : class_of WriteInitiator (header_in f).frametype ≡ Class.XferRdy → (x : XferRdy) → xfer_rdy_of (iu_of f) ≡ Result.value x → Fits w x → (a : Said) → (a ≡ Said.xfer_rdy Taking.repeats → For w x) → Took w f (burst_taken w (asked_of w (header_in f) x) a)
+  module _ (p : accept_of WriteInitiator w.sender.transfer f ≡ Result.value (arrived_in Class.XferRdy f)) where
+    took_burst : (x : XferRdy) → xfer_rdy_of (iu_of f) ≡ Result.value x → Fits w x → (a : Said) → (a ≡ Said.xfer_rdy Taking.repeats → For w x) → Took w f (burst_taken w (asked_of w (header_in f) x) a)
     unfolding burst_taken pick
-    took_burst k x r i a q =
+    took_burst x r i a q =
         let b = asked_of w (header_in f) x in
         let s = picked (λ (v : Writer). (previous v ≡ b) × (v.sender.transfer ≡ w.sender.transfer)) (eqb w.sender.unanswered 0) (begins_of w.sender.transfer b) (w with pending≔ true with taken≔ b) (refl, refl) (refl, refl) in
-        record { asked = x; accepted = p; class = k; reads = r; fits = i; repeat = q; burst = s.0; transfer = s.1 }
+        record { asked = x; accepted = p; reads = r; fits = i; repeat = q; burst = s.0; transfer = s.1 }
 
-    took_xfer_rdy : class_of WriteInitiator (header_in f).frametype ≡ Class.XferRdy → Finds (xfer_rdy_taken w (header_in f) (iu_of f))
+    took_xfer_rdy : Finds (xfer_rdy_taken w (header_in f) (iu_of f))
     unfolding xfer_rdy_taken
-    took_xfer_rdy k = sized (xfer_rdy_of (iu_of f)) refl
+    took_xfer_rdy = sized (xfer_rdy_of (iu_of f)) refl
       where
         judged : (x : XferRdy) → xfer_rdy_of (iu_of f) ≡ Result.value x → (v : Disposition) → disposition_of w x (header_in f).flags.retransmit ≡ v → Finds (judged_by v w (header_in f) x)
-        judged x r (Ok Next) e t = took_burst k x r (taken_fits w x (header_in f).flags.retransmit (inl e)) (next_taken w) (λ q. absurd (not_repeats w q))
-        judged x r (Ok Repeat) e t = took_burst k x r (taken_fits w x (header_in f).flags.retransmit (inr e)) (Said.xfer_rdy Taking.repeats) (λ q. repeat_for w x (header_in f).flags.retransmit e)
+        judged x r (Ok Next) e t = took_burst x r (taken_fits w x (header_in f).flags.retransmit (Next, e)) (next_taken w) (λ q. absurd (not_repeats w q))
+        judged x r (Ok Repeat) e t = took_burst x r (taken_fits w x (header_in f).flags.retransmit (Repeat, e)) (Said.xfer_rdy Taking.repeats) (λ q. repeat_for w x (header_in f).flags.retransmit e)
         judged x r (Err why) e t = absurd (false≢true t)
 
         sized : (y : Result XferRdy) → xfer_rdy_of (iu_of f) ≡ y → Finds (sized_by y w (header_in f))
         sized (Result.number n) r t = absurd (false≢true t)
         sized (Result.value x) r t = judged x r (disposition_of w x (header_in f).flags.retransmit) refl t
 
-    opened : (y : Result Opened) → Finds (opened_by y w from.start from.len)
-    opened (Result.number n) t = absurd (false≢true t)
-    opened (Result.value o) t = absurd (false≢true t)
+  opened : (y : Result Opened) → Finds (opened_by y w 24 (iu_length f))
+  opened (Result.number n) t = absurd (false≢true t)
+  opened (Result.value o) t = absurd (false≢true t)
 
-    by_class : (k : Class) → class_of WriteInitiator (header_in f).frametype ≡ k → Finds (taken_of k w from f)
-    unfolding response_of
-    by_class Class.XferRdy e t = took_xfer_rdy e t
-    by_class Class.Response e t = opened (response_iu_of (iu_of f)) t
-    by_class Class.Data e t = absurd (false≢true t)
-    by_class Class.Other e t = absurd (false≢true t)
+  by_class : (k : Class) → accept_of WriteInitiator w.sender.transfer f ≡ Result.value (arrived_in k f) → Finds (taken_of k w (arrived_in k f) f)
+  unfolding response_of
+  by_class Class.XferRdy p t = took_xfer_rdy p t
+  by_class Class.Response p t = opened (response_iu_of (iu_of f)) t
+  by_class Class.Data p t = absurd (false≢true t)
 
   pub took : takes (write_arrival_of w f).says ≡ true → Took w f (write_arrival_of w f)
   unfolding write_arrival_of
@@ -223,7 +217,7 @@ module _ (w : Writer) (f : List ℕ) where
       go (Result.number n) q t = absurd (false≢true t)
       go (Result.value a) q t =
           let i = (passed w.sender.transfer WriteInitiator f a q).is in
-          subst (λ (b : Arrived). accept_of WriteInitiator w.sender.transfer f ≡ Result.value b → Finds (taken_of b.class w b f)) i (λ p. by_class p (class_of WriteInitiator (header_in f).frametype) refl) q t
+          subst (λ (b : Arrived). accept_of WriteInitiator w.sender.transfer f ≡ Result.value b → Finds (taken_of b.class w b f)) i (by_class a.class) q t
 
 -- ── an XFER_RDY that repeats the previous burst ──
 module _ (v : Writer) (x : XferRdy) (base : (previous v).base ≡ x.offset) (end : (previous v).end ≡ x.offset + x.len) (some : 0 < x.len) (most : x.offset + x.len ≤ v.sender.transfer.count) where
@@ -232,6 +226,6 @@ module _ (v : Writer) (x : XferRdy) (base : (previous v).base ≡ x.offset) (end
   repeats = rw (eq-eqb x.offset (previous v).base (sym base), lt-ltb (previous v).base (previous v).end (omega arith), eq-eqb ((previous v).base + x.len) (previous v).end (omega arith), ne_eqb x.len 0 (λ e. omega arith), le-ltb v.sender.transfer.count (x.offset + x.len) most)
 
   -- it arrives as the frame g: 1, 2, else taken
-  pub repeat_taken : (g : List ℕ) → accept_of WriteInitiator v.sender.transfer g ≡ Result.value (arrived_in WriteInitiator g) → class_of WriteInitiator (header_in g).frametype ≡ Class.XferRdy → (header_in g).flags.retransmit ≡ true → xfer_rdy_of (iu_of g) ≡ Result.value x → write_arrival_of v g ≡ unless (entry_of (holds_of v) v.sender.ended) v (burst_taken v (asked_of v (header_in g) x) (Said.xfer_rdy Taking.repeats))
+  pub repeat_taken : (g : List ℕ) → accept_of WriteInitiator v.sender.transfer g ≡ Result.value (arrived_in Class.XferRdy g) → (header_in g).flags.retransmit ≡ true → xfer_rdy_of (iu_of g) ≡ Result.value x → write_arrival_of v g ≡ unless (entry_of (holds_of v) v.sender.ended) v (burst_taken v (asked_of v (header_in g) x) (Said.xfer_rdy Taking.repeats))
   unfolding write_arrival_of xfer_rdy_taken
-  repeat_taken g p k t r = rw (p, k, r, t, repeats)
+  repeat_taken g p t r = rw (p, r, t, repeats)

@@ -2,7 +2,6 @@
 use Prim.Native.Nat.{ℕ, ◌-◌, ◌^◌, ◌<◌}
 use mathlib.Core.Bool.{Bool, true, false, not, ◌&&◌, false≢true}
 use mathlib.Core.List.{List}
-use mathlib.Core.Logic.{◌⊎◌, inl, inr}
 use mathlib.Core.Path.{◌≡◌, refl, sym, ap, ◌∙◌}
 use lib.Dec.{eqb}
 use lib.ListN.{length, take, drop}
@@ -35,8 +34,8 @@ use Rattle.initiator.specs.WriteTake.{asked_of, disposition_of, burst_taken, jud
 use Rattle.initiator.specs.declared.types.XferRdyDisposition.TheVariants.{Next, Repeat}
 use Rattle.initiator.specs.declared.types.Writer.{Writer}
 use Rattle.initiator.proofs.WriteHeld.{held, lent}
-use Rattle.initiator.proofs.WriteFits.{Fits, taken_fits}
-use Rattle.std.specs.Prelude.{Ok, Err}
+use Rattle.initiator.proofs.WriteFits.{Fits, Taken, taken_fits}
+use Rattle.std.specs.Prelude.{Some, Ok, Err}
 use Rattle.initiator.specs.WriteTake.{Disposition}
 
 -- ── answers, timeout and cut ──
@@ -116,7 +115,7 @@ kept_sender w y a = go (refuses y.says) refl
     go false e = refl
 
 -- ── an XFER_RDY ──
-xfer_rdy_class : (frametype : ℕ) → frametype ≡ XFER-RDY → class_of WriteInitiator frametype ≡ Class.XferRdy
+xfer_rdy_class : (frametype : ℕ) → frametype ≡ XFER-RDY → class_of WriteInitiator frametype ≡ Some Class.XferRdy
 unfolding class_of pick
 xfer_rdy_class frametype e = rw e
 
@@ -143,23 +142,21 @@ module _ (w : Writer) (h : Header) (x : XferRdy) (e : holds_of w ≡ true) (n : 
       let t : writable h (length iu) ≡ true = rw (xfer_rdy_size x) a.writes in
       let s = written_stands h iu a.range t in
       let p : take (length iu) (drop 24 (encode h iu)) ≡ iu = rw s.1 at s.2 in
-      rw (open_entry _ _ e n, written_passes w.sender.transfer WriteInitiator h iu Class.XferRdy (xfer_rdy_class h.frametype a.frametype) refl a.dest a.source a.tag a.range t, p, xfer_rdy_comes_back x a.offset a.len)
+      rw (open_entry _ _ e n, written_passes w.sender.transfer WriteInitiator h iu Class.XferRdy (xfer_rdy_class h.frametype a.frametype) a.dest a.source a.tag a.range t, p, xfer_rdy_comes_back x a.offset a.len)
 
   -- one that is taken
-  took : (v : Disposition) → takes (judged_by v w h x).says ≡ true → (v ≡ (Ok Next)) ⊎ (v ≡ (Ok Repeat))
-  took (Ok Next) t = inl refl
-  took (Ok Repeat) t = inr refl
+  took : (v : Disposition) → takes (judged_by v w h x).says ≡ true → Taken v
+  took (Ok d) t = (d, refl)
   took (Err why) t = absurd (false≢true t)
 
-  starts : w.sender.unanswered ≡ 0 → (v : Disposition) → (v ≡ (Ok Next)) ⊎ (v ≡ (Ok Repeat)) → (judged_by v w h x).left ≡ begins_of w.sender.transfer (asked_of w h x)
+  starts : w.sender.unanswered ≡ 0 → (v : Disposition) → Taken v → (judged_by v w h x).left ≡ begins_of w.sender.transfer (asked_of w h x)
   unfolding burst_taken pick
   starts z (Ok Next) t = rw z
   starts z (Ok Repeat) t = rw z
-  starts z (Err why) (inl t) = differ (cc)
-  starts z (Err why) (inr t) = differ (cc)
+  starts z (Err why) (d, e) = differ (cc)
 
   module _ (t : takes (write_arrival_of w (encode h (xfer_rdy_bytes x))).says ≡ true) where
-    disposition_taken : (disposition_of w x h.flags.retransmit ≡ (Ok Next)) ⊎ (disposition_of w x h.flags.retransmit ≡ (Ok Repeat))
+    disposition_taken : Taken (disposition_of w x h.flags.retransmit)
     disposition_taken = took (disposition_of w x h.flags.retransmit) (rw xfer_rdy_arrives at t)
 
     pub xfer_rdy_fits : Fits w x

@@ -28,7 +28,7 @@ use Rattle.sender_steps.specs.declared.types.Sender.{Sender}
 use Rattle.sender_steps.proofs.Held as core
 use Rattle.sender.proofs.Steps.{next_step}
 use Rattle.initiator.specs.WriteRecord.{holds_of, starts_of}
-use Rattle.initiator.specs.WriteSend.{lifted_of, reached_of, lent_of, held_up, begun_of, kept_of, next_of, counted_of, confirmed_of, ack_of}
+use Rattle.initiator.specs.WriteSend.{lifted_of, reached_of, lent_of, held_up, begun_of, kept_of, next_of, counted_of, confirmed_of, served_of, confirms_of, ack_of}
 use Rattle.initiator.specs.declared.types.Writer.{Writer}
 use Rattle.initiator.proofs.WriteHeld.{held, lent}
 use Rattle.initiator.proofs.WriteKept.{starts_well}
@@ -110,7 +110,7 @@ module _ (w : Writer) where
       let o = opened _ _ (sym e) in
       ap (λ (v : Entry). and_some v some) (open_entry _ _ (held w o.0).holds o.1) ∙ q
 
-  pub ack_closed : (why : Refusal) → confirmable_of (holds_of w) w.sender.ended some ≡ Err why → ack_of w ≡ (w saying Said.refused (refusal_number why))
+  ack_closed : (why : Refusal) → confirmable_of (holds_of w) w.sender.ended some ≡ Err why → ack_of w ≡ (w saying Said.refused (refusal_number why))
   unfolding confirmed_of confirmable_of pick
   ack_closed why = go (entry_of (holds_of w) w.sender.ended) refl
     where
@@ -126,13 +126,22 @@ module _ (w : Writer) where
               let a : confirmation.confirms_of w.sender ≡ Err why = answers (Err why) e q in
               entered e ∙ rw (u, a) refl
 
+  -- what the code tests, at once
+  pub acked_is : unless (confirms_of w) w (served_of w (ack_step_of w.sender) (w.sender.unanswered - 1)) ≡ ack_of w
+  unfolding confirms_of served_of pick
+  acked_is = go (confirmable_of (holds_of w) w.sender.ended some) refl
+    where
+      go : (x : Entry) → confirmable_of (holds_of w) w.sender.ended some ≡ x → unless x w (pick (held_up w) (counted_of w (w.sender.unanswered - 1)) (lifted_of w (ack_step_of w.sender))) ≡ ack_of w
+      go (Err why) e = sym (ack_closed why e)
+      go (Ok tt) e =
+          let o = confirmable _ _ _ (sym e) in
+          let i = open_entry _ _ o.0 o.1 in
+          sym (entered i ∙ rw (answers (Ok tt) i (rw o.2 refl)) refl)
+
   pub ack_counted : confirmable_of (holds_of w) w.sender.ended some ≡ (Ok tt) → held_up w ≡ true → ack_of w ≡ counted_of w (w.sender.unanswered - 1)
-  unfolding pick
-  ack_counted e u = let o = confirmable _ _ _ (sym e) in entered (open_entry _ _ o.0 o.1) ∙ rw u refl
+  unfolding confirms_of served_of pick
+  ack_counted e u = sym acked_is ∙ rw (e, u) refl
 
   pub ack_lifted : confirmable_of (holds_of w) w.sender.ended some ≡ (Ok tt) → held_up w ≡ false → ack_of w ≡ lifted_of w (ack_step_of w.sender)
-  unfolding pick
-  ack_lifted e u =
-      let o = confirmable _ _ _ (sym e) in
-      let i = open_entry _ _ o.0 o.1 in
-      entered i ∙ rw (u, answers (Ok tt) i (rw o.2 refl)) refl
+  unfolding confirms_of served_of pick
+  ack_lifted e u = sym acked_is ∙ rw (e, u) refl

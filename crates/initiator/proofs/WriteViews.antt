@@ -3,7 +3,7 @@ use Prim.Native.Nat.{ℕ}
 use mathlib.Core.Bool.{Bool, true, false}
 use mathlib.Core.List.{List}
 use mathlib.Core.Logic.{◌⊎◌, inl, inr}
-use mathlib.Core.Path.{◌≡◌, refl, sym, ap, ◌∙◌}
+use mathlib.Core.Path.{◌≡◌, refl}
 use lib.ListN.{get_or}
 use Rattle.status.specs.Pick.{pick}
 use Rattle.status.specs.Entry.{entry_of}
@@ -27,7 +27,7 @@ use Rattle.initiator.specs.WriteTake.{ended_of, failed_of, asked_of, reported_of
 use Rattle.initiator.specs.declared.types.XferRdyDisposition.TheVariants.{Next, Repeat}
 use Rattle.initiator.specs.declared.types.Writer.{Writer}
 use Rattle.initiator.proofs.WriteFits.{Fits, taken_fits}
-use Rattle.std.specs.Prelude.{Ok, Err}
+use Rattle.std.specs.Prelude.{Some, Ok, Err}
 use Rattle.initiator.specs.WriteTake.{Disposition}
 
 -- what a taken XFER_RDY says
@@ -55,8 +55,8 @@ module _ (w : Writer) where
   judged h x = go (disposition_of w x h.flags.retransmit) refl
     where
       go : (v : Disposition) → disposition_of w x h.flags.retransmit ≡ v → Came w (judged_by v w h x)
-      go (Ok Next) e = taken h x (taken_fits w x h.flags.retransmit (inl e)) next_takes
-      go (Ok Repeat) e = taken h x (taken_fits w x h.flags.retransmit (inr e)) repeats
+      go (Ok Next) e = taken h x (taken_fits w x h.flags.retransmit (Next, e)) next_takes
+      go (Ok Repeat) e = taken h x (taken_fits w x h.flags.retransmit (Repeat, e)) repeats
       go (Err why) e = failed _
 
   xfer_rdy_lem : (h : Header) (iu : List ℕ) → Came w (xfer_rdy_taken w h iu)
@@ -79,7 +79,6 @@ module _ (w : Writer) where
   by_class Class.XferRdy a f = xfer_rdy_lem a.header _
   by_class Class.Response a f = response a.start a.len _
   by_class Class.Data a f = refused 6
-  by_class Class.Other a f = refused 6
 
   pub came : (f : List ℕ) → Came w (write_arrival_of w f)
   unfolding write_arrival_of
@@ -104,5 +103,7 @@ module _ (w : Writer) where
       go : (x : Result Arrived) → accept_of WriteInitiator w.sender.transfer f ≡ x → Ends (arrived_by x w f)
       go (Result.number n) q = inl refl
       go (Result.value a) q =
-          let k : a.class ≡ Class.Response = sym (ap (λ (b : Arrived). b.class) (passed w.sender.transfer WriteInitiator f a q).is) ∙ rw e in
+          let c = (passed w.sender.transfer WriteInitiator f a q).class in
+          let s : class_of WriteInitiator (header_in f).frametype ≡ Some Class.Response = rw e in
+          let k : a.class ≡ Class.Response = cc in
           rw k (opened a.start a.len (response_iu_of _))

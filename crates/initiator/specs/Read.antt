@@ -8,7 +8,7 @@ use Rattle.status.specs.declared.answer.Opened.{Opened}
 use Rattle.frame.specs.XferRdy.{xfer_rdy_of}
 use Rattle.frame.specs.Response.{response_iu_of}
 use Rattle.frame.specs.declared.types.XferRdy.{XferRdy}
-use Rattle.arrival.specs.Accept.{accept_of}
+use Rattle.arrival.specs.Accept.{let_in, accept_of}
 use Rattle.arrival.specs.declared.Role.TheVariants.{ReadInitiator}
 use Rattle.arrival.specs.declared.Class.{Class}
 use Rattle.arrival.specs.declared.Arrived.{Arrived}
@@ -49,11 +49,14 @@ abbrev pub taken_of : Class → Receiver → Arrived → List ℕ → ℕ → Le
 taken_of Class.Data r a f m = arrival_of r a.header.offset a.header.flags.cdp a.len m
 taken_of Class.XferRdy r a f m = not_expected_of r (take a.len (drop a.start f))
 taken_of Class.Response r a f m = response_of r a.start a.len (take a.len (drop a.start f))
-taken_of Class.Other r a f m = r saying Said.refused 6
 
 abbrev pub arrived_by : Result Arrived → Receiver → List ℕ → ℕ → Left Receiver
 arrived_by (Result.number n) r f m = r saying Said.refused n
 arrived_by (Result.value a) r f m = taken_of a.class r a f m
+
+-- 1, 2, 5, 6, 7, 8, else the frame
+unfoldable pub arrived_frame : Receiver → List ℕ → ℕ → Result Arrived
+arrived_frame r f m = let_in (entry_of (read_lent_of r m) r.ended) (accept_of ReadInitiator r.transfer f)
 
 -- "The order is 1, 2, then by event"
 unfoldable pub read_arrival_of : Receiver → List ℕ → ℕ → Left Receiver

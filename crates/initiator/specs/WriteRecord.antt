@@ -1,8 +1,6 @@
 -- The initiator's record in a write command: the tests of number 1, set_up, and how a burst starts.
 use Rattle.std.specs.Prelude.{List, [], ◌∷◌, Bool, false, leb}
 use Rattle.status.specs.Pick.{all}
-use Rattle.status.specs.Number.{refusal_number}
-use Rattle.status.specs.Answer.{says, Left, ◌saying◌}
 use Rattle.status.specs.Result.{Result, granted}
 use Rattle.transfer.specs.Limits.{limits_hold}
 use Rattle.transfer.specs.declared.Transfer.{Transfer}

@@ -1,7 +1,7 @@
 -- A write command's frames asked for and their confirmations, over the sending port.
 use Rattle.std.specs.Prelude.{ℕ, ◌-◌, max, List, [], ◌∷◌, Bool, not, ◌&&◌, length, eqb}
 use Rattle.status.specs.Pick.{pick, all, ◌with◌}
-use Rattle.status.specs.Entry.{entry_of}
+use Rattle.status.specs.Entry.{Entry, entry_of, confirmable_of}
 use Rattle.status.specs.Answer.{Word, Said, Left, ◌saying◌, refuses, unless}
 use Rattle.sender_steps.specs.Fields.{unanswered≔}
 use Rattle.sender.specs.Transmit as transmit
@@ -48,9 +48,17 @@ unfoldable pub counted_of : Writer → ℕ → Left Writer
 counted_of w n =
     pick (eqb n 0) (starts_of w) (w with sender≔ (w.sender with unanswered≔ n)) saying Said.word Word.taken
 
+-- the sending port's step, or, while a taken burst waits, the count left
+unfoldable pub served_of : Writer → Left Sender → ℕ → Left Writer
+served_of w step n = pick (held_up w) (counted_of w n) (lifted_of w step)
+
 -- a confirmation: the sending port's step, or, while a taken burst waits, the count left
 unfoldable pub confirmed_of : Writer → Left Sender → ℕ → Left Writer
 confirmed_of w step n = unless (entry_of (holds_of w) w.sender.ended) w (pick (held_up w) (counted_of w n) (lifted_of w step))
+
+-- 1, 2, 4
+unfoldable pub confirms_of : Writer → Entry
+confirms_of w = confirmable_of (holds_of w) w.sender.ended (not (eqb w.sender.unanswered 0))
 
 abbrev pub ack_of : Writer → Left Writer
 ack_of w = confirmed_of w (confirmation.ack_of w.sender) (w.sender.unanswered - 1)

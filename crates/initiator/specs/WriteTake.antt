@@ -5,13 +5,15 @@ use Rattle.status.specs.Entry.{entry_of}
 use Rattle.status.specs.Number.{failure_number}
 use Rattle.status.specs.Answer.{Taking, Said, Left, ◌saying◌, unless}
 use Rattle.status.specs.Result.{Result}
+use Rattle.status.specs.Stepped.{stepped}
+use Rattle.status.specs.declared.stepped.Stepped.{Stepped}
 use Rattle.status.specs.declared.words.Failure.TheVariants.{XferRdyIncorrectWriteDataLength, XferRdyRequestedOffsetError, XferRdyNotExpected}
 use Rattle.status.specs.declared.answer.Opened.{Opened}
 use Rattle.frame.specs.XferRdy.{xfer_rdy_of}
 use Rattle.frame.specs.Response.{response_iu_of}
 use Rattle.frame.specs.declared.types.Header.{Header}
 use Rattle.frame.specs.declared.types.XferRdy.{XferRdy}
-use Rattle.arrival.specs.Accept.{accept_of}
+use Rattle.arrival.specs.Accept.{let_in, accept_of}
 use Rattle.arrival.specs.declared.Role.TheVariants.{WriteInitiator}
 use Rattle.arrival.specs.declared.Class.{Class}
 use Rattle.arrival.specs.declared.Arrived.{Arrived}
@@ -37,6 +39,11 @@ ended_of w = w with sender≔ (confirmation.ended_of w.sender)
 abbrev pub failed_of : Writer → ℕ → Left Writer
 failed_of w n = ended_of w saying Said.failed n w.sender.frames
 
+-- a step of the code, or the failure in its place
+abbrev pub or_failed : Writer → code.Result (Stepped Writer) Failure → Left Writer
+or_failed w (Ok x) = stepped x
+or_failed w (Err why) = failed_of w (failure_number why)
+
 -- "The previous burst is the last one taken, started or not"
 abbrev pub previous : Writer → Burst
 previous w = pick w.pending w.taken w.sender.burst
@@ -46,7 +53,7 @@ abbrev pub all_handed : Writer → Bool
 all_handed w = pick w.pending (eqb w.taken.base w.taken.end) (eqb w.reached w.sender.burst.end)
 
 -- "25: 0, or offset plus length passes the count"
-unfoldable pub fits_of : Writer → XferRdy → Disposition → Disposition
+unfoldable pub fits_of : {A : Type 0} → Writer → XferRdy → code.Result A Failure → code.Result A Failure
 fits_of w x v = pick (eqb x.len 0 || ltb w.sender.transfer.count (x.offset + x.len)) (Err XferRdyIncorrectWriteDataLength) v
 
 -- 25 also where a repeat has another length: "its length must be that of the burst it repeats" (request K3)
@@ -106,11 +113,14 @@ abbrev pub taken_of : Class → Writer → Arrived → List ℕ → Left Writer
 taken_of Class.XferRdy w a f = xfer_rdy_taken w a.header (take a.len (drop a.start f))
 taken_of Class.Response w a f = response_of w a.start a.len (take a.len (drop a.start f))
 taken_of Class.Data w a f = w saying Said.refused 6
-taken_of Class.Other w a f = w saying Said.refused 6
 
 abbrev pub arrived_by : Result Arrived → Writer → List ℕ → Left Writer
 arrived_by (Result.number n) w f = w saying Said.refused n
 arrived_by (Result.value a) w f = taken_of a.class w a f
+
+-- 1, 2, 5, 6, 7, 8, else the frame
+unfoldable pub arrived_frame : Writer → List ℕ → Result Arrived
+arrived_frame w f = let_in (entry_of (holds_of w) w.sender.ended) (accept_of WriteInitiator w.sender.transfer f)
 
 unfoldable pub write_arrival_of : Writer → List ℕ → Left Writer
 write_arrival_of w f = unless (entry_of (holds_of w) w.sender.ended) w (arrived_by (accept_of WriteInitiator w.sender.transfer f) w f)

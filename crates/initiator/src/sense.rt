@@ -10,14 +10,8 @@ pub fn sense_data(a: Answer, bytes: &[u8]) -> &[u8]
     ensures { Shows result bytes.entry (sense_in (says a) bytes.now) }
 {
     match a {
-        Answer::Response {
-            iu,
-            opened,
-            frames: _,
-        } => {
-            let start = iu.start;
-            let len = iu.len;
-            frame::sense_of(opened, frame::part(bytes, start, len))
+        Answer::Response { iu, opened, .. } => {
+            frame::sense_of(opened, frame::part(bytes, iu.start, iu.len))
         }
         _ => frame::part(bytes, 0, 0),
     }

@@ -2,6 +2,7 @@
 use sender::{Burst, Sender};
 use status::{Answer, Failure, Refusal, Stepped};
 
+// C interface: this is the record of ssp.h, so a flag stands beside the burst that is taken, in place of an Option.
 #[repr(C)]
 #[derive(Clone, Copy)]
 pub struct Writer {

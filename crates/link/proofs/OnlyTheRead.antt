@@ -77,13 +77,12 @@ module _ (r : Receiver) (b : List ℕ) where
     iu_length_lem : length (iu_of f) ≡ iu_length f
     iu_length_lem = rw (length-take, length-drop) (omega arith)
 
-    by_class : (k : Class) → Same (storing (taken_of k r (arrived_in ReadInitiator f) f (length b)).says (header_in f).offset (iu_of f) b)
+    by_class : (k : Class) → Same (storing (taken_of k r (arrived_in k f) f (length b)).says (header_in f).offset (iu_of f) b)
     by_class Class.Data =
         subst (λ (n : ℕ). Same (storing (arrival_of r (header_in f).offset (header_in f).flags.cdp n (length b)).says (header_in f).offset (iu_of f) b)) iu_length_lem
         (core (header_in f).offset (header_in f).flags.cdp (iu_of f))
     by_class Class.XferRdy = subst Same (not_expected_leaves r _ (header_in f).offset (iu_of f) b) same
     by_class Class.Response = subst Same (response_leaves r _ _ _ (header_in f).offset (iu_of f) b) same
-    by_class Class.Other = same
 
   bytes : (f : List ℕ) → Same (storing (read_arrival_of r f (length b)).says (header_in f).offset (iu_of f) b)
   unfolding read_arrival_of
@@ -96,7 +95,7 @@ module _ (r : Receiver) (b : List ℕ) where
       go (Result.number n) e = same
       go (Result.value a) e =
           let p = passed r.transfer ReadInitiator f a e in
-          subst (λ (v : Arrived). Left-same (taken_of v.class r v f (length b))) p.is (by_class f p.inside (class_of ReadInitiator (header_in f).frametype))
+          subst (λ (v : Arrived). Left-same (taken_of v.class r v f (length b))) p.is (by_class f p.inside a.class)
 
 -- no call changes the transfer
 abbrev Transfer-same : Receiver → Left Receiver → Type 0

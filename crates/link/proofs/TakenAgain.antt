@@ -22,6 +22,7 @@ use Rattle.frame.specs.declared.types.Header.{Header}
 use Rattle.frame.specs.declared.types.XferRdy.{XferRdy}
 use Rattle.arrival.specs.Accept.{class_of, accept_of}
 use Rattle.arrival.specs.declared.Role.TheVariants.{WriteInitiator}
+use Rattle.arrival.specs.declared.Class.{Class}
 use Rattle.arrival.proofs.Passed.{arrived_in, same_passes}
 use Rattle.sender_steps.specs.declared.types.Burst.{Burst}
 use Rattle.initiator.specs.WriteRecord.{holds_of}
@@ -77,7 +78,7 @@ module _ (w : Writer) (f : List ℕ) (t : takes (write_arrival_of w f).says ≡ 
     form : well_formed g ≡ well_formed f
     form i = all (leb 24 (a.size i) ∷ leb (a.size i) 1_048 ∷ eqb (a.size i % 4) 0 ∷ leb (fill i) (a.size i - 24) ∷ [])
 
-    passes : accept_of WriteInitiator w.sender.transfer g ≡ Result.value (arrived_in WriteInitiator g)
+    passes : accept_of WriteInitiator w.sender.transfer g ≡ Result.value (arrived_in Class.XferRdy g)
     passes =
         same_passes w.sender.transfer WriteInitiator f g _ form (ap (λ (h : Header). h.frametype) a.header) (ap (λ (h : Header). h.dest) a.header) (ap (λ (h : Header). h.source) a.header)
         (ap (λ (h : Header). h.tag) a.header) first.accepted
@@ -92,7 +93,7 @@ module _ (w : Writer) (f : List ℕ) (t : takes (write_arrival_of w f).says ≡ 
         let c = ap (λ (u : Transfer). u.count) s.transfer in
         ap (λ (z : Left Writer). z.says)
         (repeat_taken v asked s.base s.end i.some (omega (arith, c, i.most)) g (ap (λ (u : Transfer). accept_of WriteInitiator u g) s.transfer ∙ passes)
-        (ap (λ (h : Header). class_of WriteInitiator h.frametype) a.header ∙ first.class) (ap (λ (h : Header). h.flags.retransmit) a.header) reads)
+        (ap (λ (h : Header). h.flags.retransmit) a.header) reads)
         ∙ go (entry_of (holds_of v) v.sender.ended) v _ _ refl
       where
         go : (e : Entry) (v : Writer) (y z : Left Writer) → y.says ≡ z.says → (unless e v y).says ≡ (unless e v z).says

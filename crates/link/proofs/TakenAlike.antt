@@ -13,6 +13,7 @@ use Rattle.status.proofs.OpenedCall.{differ}
 use Rattle.frame.specs.Format.{RESPONSE, flags_of}
 use Rattle.frame.specs.Read.{header_in, iu_of}
 use Rattle.frame.proofs.Alike.{Alike, field_same, type_same, dest_same, source_same, tag_same, offset_same, length_same, iu_same, form_same}
+use Rattle.std.specs.Prelude.{Some}
 use Rattle.arrival.specs.Accept.{class_of}
 use Rattle.arrival.specs.declared.Class.{Class}
 use Rattle.arrival.specs.declared.Role.{Role}
@@ -75,22 +76,21 @@ module _ (role : Role) (f g : List ℕ) (s : SameTo role f g) where
   reads r m =
       ap (unless (entry_of (reading.read_lent_of r m) r.ended) r)
       (alike f g agree ReadInitiator r.transfer (λ h o. reading.arrived_by o r h m) (λ n. refl)
-      (go (class_of ReadInitiator (header_in f).frametype) ∙ ap (λ (n : ℕ). reading.taken_of (class_of ReadInitiator n) r (arrived_in ReadInitiator g) g m) agree.frametype))
+      (λ k e. go k))
     where
-      go : (k : Class) → reading.taken_of k r (arrived_in ReadInitiator f) f m ≡ reading.taken_of k r (arrived_in ReadInitiator g) g m
+      go : (k : Class) → reading.taken_of k r (arrived_in k f) f m ≡ reading.taken_of k r (arrived_in k g) g m
       go Class.Data = λ i. arrival_of r (place_same i) (cdp_same i) (length_same f g same i) m
       go Class.XferRdy = ap (reading.not_expected_of r) (iu_same f g same)
       go Class.Response = λ i. reading.response_of r 24 (length_same f g same i) (iu_same f g same i)
-      go Class.Other = refl
 
   sends : (x : Sender) → sending.read_arrival_of x f ≡ sending.read_arrival_of x g
   unfolding sending.read_arrival_of
-  sends x = ap (unless (entry_of (sending.read_holds_of x) x.ended) x) (alike f g agree ReadTarget x.transfer (λ h o. sending.none_of o x) (λ n. refl) refl)
+  sends x = ap (unless (entry_of (sending.read_holds_of x) x.ended) x) (alike f g agree ReadTarget x.transfer (λ h o. sending.none_of o x) (λ n. refl) (λ k e. refl))
 
 -- a RESPONSE is not taken for an XFER_RDY
-not_both : (n : ℕ) → class_of WriteInitiator n ≡ Class.XferRdy → n ≡ RESPONSE → ⊥
+not_both : (n : ℕ) → class_of WriteInitiator n ≡ Some Class.XferRdy → n ≡ RESPONSE → ⊥
 unfolding class_of pick
-not_both n e q = let p : class_of WriteInitiator RESPONSE ≡ Class.XferRdy = sym (ap (class_of WriteInitiator) q) ∙ e in differ (cc)
+not_both n e q = let p : class_of WriteInitiator RESPONSE ≡ Some Class.XferRdy = sym (ap (class_of WriteInitiator) q) ∙ e in differ (cc)
 
 type_of : (f : List ℕ) → IsResponse f → (header_in f).frametype ≡ RESPONSE
 unfolding header_in
@@ -102,25 +102,24 @@ module _ (f g : List ℕ) where
   takes s w =
       ap (unless (entry_of (recorded.holds_of w) w.sender.ended) w)
       (alike f g (agree WriteInitiator f g s) WriteInitiator w.sender.transfer (λ h o. writing.arrived_by o w h) (λ n. refl)
-      (go (class_of WriteInitiator (header_in f).frametype) refl ∙ ap (λ (n : ℕ). writing.taken_of (class_of WriteInitiator n) w (arrived_in WriteInitiator g) g) (agree WriteInitiator f g s).frametype))
+      go)
     where
       a : Alike f g
       a = same WriteInitiator f g s
 
-      go : (k : Class) → class_of WriteInitiator (header_in f).frametype ≡ k → writing.taken_of k w (arrived_in WriteInitiator f) f ≡ writing.taken_of k w (arrived_in WriteInitiator g) g
+      go : (k : Class) → class_of WriteInitiator (header_in f).frametype ≡ Some k → writing.taken_of k w (arrived_in k f) f ≡ writing.taken_of k w (arrived_in k g) g
       go Class.Data e = refl
       go Class.XferRdy e =
           xfer_rdy_alike w (header_in f) (header_in g) (tptt_same WriteInitiator f g s (λ q. not_both (header_in f).frametype e (type_of f q))) (retry_same WriteInitiator f g s) (retransmit_same WriteInitiator f g s) (iu_of f)
           ∙ ap (writing.xfer_rdy_taken w (header_in g)) (iu_same f g a)
       go Class.Response e = λ i. writing.response_of w 24 (length_same f g a i) (iu_same f g a i)
-      go Class.Other e = refl
 
   fills : SameTo WriteTarget f g → (x : Target) (m : ℕ) → filling.write_arrival_of x f m ≡ filling.write_arrival_of x g m
   unfolding filling.write_arrival_of filling.taken_of
   fills s x m =
       ap (unless (entry_of (filling.lent_of x m) x.receiver.ended) x)
       (alike f g (agree WriteTarget f g s) WriteTarget x.receiver.transfer (λ h o. filling.arrived_by o x m) (λ n. refl)
-      (λ i. pick (not (eqb x.state NONE) && eqb (tptt_same WriteTarget f g s (λ z. z) i) x.tptt)
+      (λ k e i. pick (not (eqb x.state NONE) && eqb (tptt_same WriteTarget f g s (λ z. z) i) x.tptt)
       (pick (eqb x.state READY) (filling.lifted_of x (arrival_of x.receiver (place_same WriteTarget f g s i) (cdp_same WriteTarget f g s i) (length_same f g (same WriteTarget f g s) i) m)) (x saying Said.word Word.discarded))
       (x saying Said.refused 8)))
 

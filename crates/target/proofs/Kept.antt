@@ -12,13 +12,13 @@ use Rattle.status.specs.Pick.{pick, ◌with◌}
 use Rattle.status.specs.Entry.{entry_of}
 use Rattle.status.specs.Answer.{Word, Said, Left, ◌saying◌, stores, unless}
 use Rattle.status.specs.Entry.{Entry}
-use Rattle.std.specs.Prelude.{Ok, Err}
+use Rattle.std.specs.Prelude.{Some, None, Ok, Err}
 use Rattle.status.proofs.Leaves.{picked, unless_gives}
-use Rattle.status.proofs.OpenedCall.{opened}
+use Rattle.status.proofs.OpenedCall.{differ, opened}
 use Rattle.status.specs.Result.{Result}
 use Rattle.frame.specs.Format.{RESPONSE}
 use Rattle.frame.specs.Read.{header_in}
-use Rattle.arrival.specs.Accept.{class_of, is_taken, accept_of}
+use Rattle.arrival.specs.Accept.{class_of, accept_of}
 use Rattle.arrival.specs.declared.Role.TheVariants.{WriteTarget}
 use Rattle.arrival.specs.declared.Arrived.{Arrived}
 use Rattle.arrival.proofs.Passed.{passed}
@@ -131,8 +131,8 @@ module _ (x : Target) where
       go : (y : Result Arrived) → accept_of WriteTarget x.receiver.transfer f ≡ y → stores (arrived_by y x m).says ≡ false
       go (Result.number n) q = refl
       go (Result.value a) q =
-          let t : is_taken (class_of WriteTarget RESPONSE) ≡ true = rw e at (passed x.receiver.transfer WriteTarget f a q).taken in
-          absurd (false≢true t)
+          let c : None ≡ Some a.class = rw e at (passed x.receiver.transfer WriteTarget f a q).class in
+          differ (cc)
 
   module _ (h : holds_of x ≡ true) where
     -- an answer that is not refused

@@ -131,7 +131,7 @@ module _ (x : Target) (h : Header) (iu : List ℕ) (m : ℕ) where
   pub data_arrives : lent_of x m ≡ true → x.receiver.ended ≡ false → x.state ≡ READY → h.frametype ≡ DATA → h.dest ≡ x.receiver.transfer.local → h.source ≡ x.receiver.transfer.remote → h.tag ≡ x.receiver.transfer.tag → h.tptt ≡ x.tptt → InRange h → writable h (length iu) ≡ true → write_arrival_of x (encode h iu) m ≡ lifted_of x (arrival_of x.receiver h.offset h.flags.cdp (length iu) m)
   unfolding write_arrival_of taken_of class_of pick
   data_arrives l o y k d s g t r w =
-      rw (open_entry _ _ l o, written_passes x.receiver.transfer WriteTarget h iu Data (rw (eq-eqb _ _ k)) refl d s g r w, eq-eqb _ _ t, y)
+      rw (open_entry _ _ l o, written_passes x.receiver.transfer WriteTarget h iu Data (rw (eq-eqb _ _ k)) d s g r w, eq-eqb _ _ t, y)
 
 pub data_placed : (h : Header) (iu : List ℕ) → InRange h → writable h (length iu) ≡ true → ((header_in (encode h iu)).offset ≡ h.offset) × (iu_of (encode h iu) ≡ iu)
 data_placed h iu r w = let b = written_stands h iu r w in (ap (λ (g : Header). g.offset) b.0, b.2)

@@ -12,13 +12,13 @@ pub returns-in-Err : goal.returns-in-Err
 unfolding next_of
 returns-in-Err c =
     let a = c.args in
-    told a.w a.buffer.now a.out.now (rw (← c.lent-ok.ensures, sym c.admit.ensures ∙ c.in-Err.is) refl) c.refused.ensures refl
+    told a.w a.buffer.now a.out.now (rw (← c.lent.ensures, sym c.admit.ensures ∙ c.in-Err.is) refl) c.refused.ensures refl
 
 pub returns-then-held_up : goal.returns-then-held_up
 unfolding next_of pick
 returns-then-held_up c =
     let a = c.args in
-    told a.w a.buffer.now a.out.now (rw (← c.lent-ok.ensures, sym c.admit.ensures ∙ c.in-Ok.is, sym c.held_up.ensures ∙ c.if-held_up.true) refl) refl refl
+    told a.w a.buffer.now a.out.now (rw (← c.lent.ensures, sym c.admit.ensures ∙ c.in-Ok.is, sym c.held_up.ensures ∙ c.if-held_up.true) refl) refl refl
 
 pub returns-then-w : goal.returns-then-w
 returns-then-w c =
@@ -26,7 +26,7 @@ returns-then-w c =
     let w = a.w in
     let d = a.buffer.now in
     let o = opened _ _ (sym c.in-Ok.is ∙ c.admit.ensures) in
-    let l = sym c.lent-ok.ensures ∙ o.0 in
+    let l = sym c.lent.ensures ∙ o.0 in
     let p = c.if-w.true in
     let f = c.first.ensures in
     told w d a.out.now (first_is w d a.out.now l o.1 (sym c.held_up.ensures ∙ c.if-held_up.false) p) f.0
@@ -38,7 +38,7 @@ returns-else-w c =
     let w = a.w in
     let d = a.buffer.now in
     let o = opened _ _ (sym c.in-Ok.is ∙ c.admit.ensures) in
-    let l = sym c.lent-ok.ensures ∙ o.0 in
+    let l = sym c.lent.ensures ∙ o.0 in
     let p = c.if-w.false in
     let f = c.frame_step.ensures in
     told w d a.out.now (served_is w d a.out.now l o.1 (sym c.held_up.ensures ∙ c.if-held_up.false) p) (c.reach.ensures ∙ ap (reached_of w) f.0)
