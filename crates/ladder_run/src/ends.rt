@@ -8,6 +8,8 @@ ghost use Rattle.ladder_run.specs.Ends.{onto, asked, arrived, ask_of, signalled_
 ghost use Rattle.ladder_run.specs.declared.types.Sending.TheVariants as sending;
 
 use crate::types::{Arrived, Asked, Receiving, Sending};
+use initiator::Writer;
+use sender::Sender;
 use status::Stepped;
 
 fn read_left(y: Stepped<Sender>) -> Asked

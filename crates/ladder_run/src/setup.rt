@@ -78,14 +78,14 @@ fn write(r: Run) -> Result<Ladder, Refusal>
 }
 
 // Line one of a run file: 1, else the ladder at its start.
+#[tactic(auto, unfolding(crate::specs::Setup::set_up_of, status::specs::Pick::pick))]
 pub fn set_up(r: Run) -> Result<Ladder, Refusal>
     ensures { or_refusal result ≡ set_up_of r }
 {
     if Ladder::COUNT_MOST < r.count {
         return Err(Refusal::BadRequest);
     }
-    let d = r.direction;
-    match d {
+    match r.direction {
         Direction::Read => read(r),
         Direction::Write => write(r),
     }
