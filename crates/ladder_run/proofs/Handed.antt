@@ -2,7 +2,7 @@
 use Prim.Native.Nat.{ℕ, ◌≤◌}
 use mathlib.Core.Bool.{Bool, true, false}
 use mathlib.Core.List.{List}
-use mathlib.Core.Path.{◌≡◌, refl}
+use mathlib.Core.Path.{◌≡◌, refl, ap}
 use native.Mathlib.Omega.{arith}
 use lib.ListN.{length, length-replicate}
 use lib.Dec.{leb}
@@ -10,7 +10,7 @@ use borrow.Author.Tests.{leb-true}
 use Rattle.status.specs.Pick.{pick}
 use Rattle.status.specs.Answer.{Word, Said, Left, ◌saying◌, refuses, unless}
 use Rattle.status.specs.Entry.{Entry}
-use Rattle.std.specs.Prelude.{Ok, Err}
+use Rattle.std.specs.Prelude.{Ok, Err, Option, Some, unwrap_or}
 use Rattle.status.specs.Entry.{entry_of}
 use Rattle.frame.specs.Write.{hands}
 use Rattle.sender.specs.Transmit as sender
@@ -27,8 +27,12 @@ use Rattle.ladder_run.specs.Row.{area, handed}
 use Rattle.ladder_run.specs.declared.types.Sending.{Sending}
 use Rattle.ladder_run.specs.declared.types.Sending.TheVariants as sending
 
+-- 0 where none was
+abbrev pub handed_length : Said → ℕ
+handed_length a = unwrap_or (handed a) 0
+
 record Fits {X : Type 0} (n : ℕ) (x : Left X) : Type 0 where
-  fits : handed x.says ≤ n
+  fits : handed_length x.says ≤ n
 
 hands_fits : {X : Type 0} (x y : X) (f out : List ℕ) → Fits (length out) (hands x y f out)
 unfolding hands pick
@@ -63,11 +67,11 @@ writer_fits w d out =
     (pick_fits _ (initiator.held_up w) _ _ (wait_fits _ w)
     (pick_fits _ (refuses transmitted.says) (w saying transmitted.says) (initiator.reached_of (initiator.begun_of w) transmitted) (record { fits = x.fits }) (record { fits = x.fits })))
 
-ask_fits : (s : Sending) (d out : List ℕ) → handed (ask_of s d out).says ≤ length out
+ask_fits : (s : Sending) (d out : List ℕ) → handed_length (ask_of s d out).says ≤ length out
 unfolding pick
 ask_fits (sending.Read s) d out = go s.transfer.write
   where
-    go : (t : Bool) → handed (pick t (s saying Said.refused 1) (sender.next_of s d out)).says ≤ length out
+    go : (t : Bool) → handed_length (pick t (s saying Said.refused 1) (sender.next_of s d out)).says ≤ length out
     go true = omega arith
     go false = (sender_fits s d out).fits
 ask_fits (sending.Write w) d out = (writer_fits w d out).fits
@@ -77,8 +81,8 @@ unfolding target.next_of
 target_fits y out = unless_fits _ (entry_of (holds_of y) y.receiver.ended) y _ (pick_fits _ (target.due_of y) _ _ (hands_fits y (target.issued_of y) (target.frame_of y) out) (wait_fits _ y))
 
 -- in the area
-pub area_most : (s : Sending) (d : List ℕ) {n : ℕ} → n ≡ handed (ask_of s d area).says → n ≤ 1_048
-area_most s d e = omega (arith, e, ask_fits s d area, length-replicate {A = ℕ} 1_048 0)
+pub area_most : (s : Sending) (d : List ℕ) {n : ℕ} → Some n ≡ handed (ask_of s d area).says → n ≤ 1_048
+area_most s d e = omega (arith, ap (λ (v : Option ℕ). unwrap_or v 0) e, ask_fits s d area, length-replicate {A = ℕ} 1_048 0)
 
-pub issued_most : (y : Target) {n : ℕ} → n ≡ handed (target.next_of y area).says → n ≤ 1_048
+pub issued_most : (y : Target) {n : ℕ} → n ≡ handed_length (target.next_of y area).says → n ≤ 1_048
 issued_most y e = omega (arith, e, (target_fits y area).fits, length-replicate {A = ℕ} 1_048 0)

@@ -12,7 +12,7 @@ use Rattle.status.specs.Entry.{entry_of}
 use Rattle.status.specs.Answer.{Word, Said, Left, ◌saying◌, unless}
 use Rattle.status.specs.Result.{Result}
 use Rattle.status.specs.Entry.{Entry}
-use Rattle.std.specs.Prelude.{Ok, Err}
+use Rattle.std.specs.Prelude.{Ok, Err, None}
 use Rattle.status.proofs.Choose.{each}
 use Rattle.status.proofs.Leaves.{picked, unless_gives}
 use Rattle.status.proofs.OpenedCall.{opened}
@@ -40,7 +40,7 @@ use Rattle.ladder_run.specs.declared.types.Shown.{Shown}
 
 -- nothing was handed out, or the frame f, whose data offset is below p
 pub data Hands (p : ℕ) (f : List ℕ) : Said → Type 0 where
-  nothing : {x : Said} → handed x ≡ 0 → Hands p f x
+  nothing : {x : Said} → handed x ≡ None → Hands p f x
   frame : (header_in f).offset < p → Hands p f (Said.frame (length f))
 
 -- the data offset comes back
