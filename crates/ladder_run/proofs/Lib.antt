@@ -1,4 +1,3 @@
-pub mod Ports
 pub mod InTurn
 pub mod Handed
 pub mod Leaves

@@ -30,6 +30,7 @@ pub(crate) fn fault(f: Fate) -> u32
 }
 
 // Of so many frames, those whose fate is not `ok`.
+#[tactic(auto, using(crate::proofs::InTurn::fault_most, crate::proofs::InTurn::faults_next))]
 pub fn faults(fates: &[u8], frames: u32) -> u32
     ensures { result ≡ faults_of fates.now frames }
 {

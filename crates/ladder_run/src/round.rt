@@ -45,6 +45,7 @@ fn confirm(x: Confirming, fate: Fate) -> Confirming
 }
 
 // The confirmations of the frames of a round, in order.
+#[tactic(auto, using(crate::proofs::InTurn::confirmations_next, crate::proofs::InTurn::confirmations_end))]
 fn confirmations(start: Confirming, fates: &[u8], from: u32, to: u32) -> Confirming
     ensures { result ≡ confirmations_of fates.now (to - from) from start }
 {
