@@ -74,12 +74,12 @@ module _ (l : Ladder) (fs d b : List ℕ) where
   sent_small s f n h =
       small_row (l.frames + 1) (shown_of (decode f)) (fate_of fs l.frames) _ (omega arith) (shown_small f h) (met_brief l.receiving (fate_of fs l.frames) f b)
 
-  asked_small : (x : Called Sending) (f : List ℕ) (p : ℕ) → l.frames < ROWS-MOST → p ≤ COUNT-MOST → Hands p f x.says → x.lent ≡ handing x.says f area → SmallDue (asked_by l x fs b).line
+  asked_small : (x : Called Sending) (f : List ℕ) (p : ℕ) → l.frames < ROWS-MOST → p ≤ COUNT-MOST → Hands p 1_048 f x.says → x.lent ≡ handing x.says f area → SmallDue (asked_by l x fs b).line
   asked_small x f p n small h e = go x.says h e
     where
-      go : (a : Said) → Hands p f a → x.lent ≡ handing a f area → SmallDue (due_of l x fs b (handed a)).line
+      go : (a : Said) → Hands p 1_048 f a → x.lent ≡ handing a f area → SmallDue (due_of l x fs b (handed a)).line
       go a (Hands.nothing z) e = rw z tt
-      go _ (Hands.frame q) e = let small_offset : (header_in (take (length f) x.lent)).offset < p = (subst (λ (g : List ℕ). (header_in g).offset < p) (sym (ap (take (length f)) e ∙ over_front f area)) q) in sent_small x.left _ n (omega arith)
+      go _ (Hands.frame q m) e = let small_offset : (header_in (take (length f) x.lent)).offset < p = (subst (λ (g : List ℕ). (header_in g).offset < p) (sym (ap (take (length f)) e ∙ over_front f area)) q) in sent_small x.left _ n (omega arith)
 
   out_small : SmallDue (out_of l fs d b).line
   unfolding out_of pick

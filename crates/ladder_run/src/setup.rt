@@ -56,6 +56,7 @@ fn read(r: Run) -> Result<Ladder, Refusal>
 }
 
 // The XFER_RDY of the one burst: handed out, taken, acknowledged.
+#[tactic(auto, unfolding(crate::specs::Setup::exchanged))]
 fn exchange(w: Writer, y: Target) -> Ladder
     ensures { result ≡ exchanged w y }
 {
