@@ -25,7 +25,7 @@ use Rattle.ladder_run.specs.declared.types.Sending.{Sending}
 use Rattle.ladder_run.specs.declared.types.Ladder.{Ladder}
 use Rattle.ladder_claim.proofs.SendingCore.{SendsAs, past_as, asks_as}
 use Rattle.ladder_claim.proofs.Course.{Course, next_needed, sent_on}
-use Rattle.ladder_claim.proofs.CoreAsked.{Asking, asking, frame_least}
+use Rattle.ladder_claim.proofs.CoreAsked.{Asking, asking}
 use Rattle.ladder_claim.proofs.Going.{Live}
 
 module _ (C : Course) (fs d : List ℕ) (sent : length d ≡ C.t.count) where

@@ -1,4 +1,4 @@
--- What bounds a frame's bytes and a row's number, from what the callees ensure.
+-- What bounds the bytes of a frame that is read.
 use Prim.Native.Nat.{ℕ, ◌≤◌, ◌<◌}
 use mathlib.Core.Bool.{Bool, true}
 use mathlib.Core.List.{List}
@@ -22,7 +22,3 @@ few_bytes f p e =
     let a = accepted f p e in
     let t = each (form f) a.form in
     omega (arith, ap (λ (v : Parsed). v.len) a.is, leb-true (length f) 1_048 t.1.0)
-
--- a row more can be told
-pub open_less : (l : Ladder) {t : Bool} → t ≡ open_of l → t ≡ true → l.frames < 38_291
-open_less l h t = ltb-true _ _ (and_true (silent l.report) _ (and_true _ (leb (past_of l.sending) COUNT-MOST) (sym h ∙ t)).0).1

@@ -79,7 +79,9 @@ module _ (l : Ladder) (fs d b : List ℕ) where
     where
       go : (a : Said) → Hands p 1_048 f a → x.lent ≡ handing a f area → SmallDue (due_of l x fs b (handed a)).line
       go a (Hands.nothing z) e = rw z tt
-      go _ (Hands.frame q m) e = let small_offset : (header_in (take (length f) x.lent)).offset < p = (subst (λ (g : List ℕ). (header_in g).offset < p) (sym (ap (take (length f)) e ∙ over_front f area)) q) in sent_small x.left _ n (omega arith)
+      go _ (Hands.frame q m) e =
+          let front : take (length f) x.lent ≡ f = ap (take (length f)) e ∙ over_front f area in
+          sent_small x.left _ n (rw front (omega arith))
 
   out_small : SmallDue (out_of l fs d b).line
   unfolding out_of pick
