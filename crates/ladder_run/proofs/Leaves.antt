@@ -1,20 +1,15 @@
 -- What bounds the bytes of a frame that is read.
-use Prim.Native.Nat.{ℕ, ◌≤◌, ◌<◌}
-use mathlib.Core.Bool.{Bool, true}
+use Prim.Native.Nat.{ℕ, ◌≤◌}
 use mathlib.Core.List.{List}
-use mathlib.Core.Path.{◌≡◌, sym, ap, ◌∙◌}
+use mathlib.Core.Path.{◌≡◌, ap}
 use native.Mathlib.Omega.{arith}
 use lib.ListN.{length}
-use lib.Dec.{leb}
-use borrow.Author.Tests.{leb-true, ltb-true}
+use borrow.Author.Tests.{leb-true}
 use Rattle.status.specs.Result.{Result}
-use Rattle.status.proofs.Choose.{and_true, each}
+use Rattle.status.proofs.Choose.{each}
 use Rattle.frame.specs.Read.{decode, form}
 use Rattle.frame.specs.declared.types.Parsed.{Parsed}
 use Rattle.frame.proofs.RoundTrip.{accepted}
-use Rattle.ladder_run.specs.Ends.{past_of}
-use Rattle.ladder_run.specs.Row.{silent, COUNT-MOST, open_of}
-use Rattle.ladder_run.specs.declared.types.Ladder.{Ladder}
 
 -- the reader takes frames of at most 1,024 data bytes
 pub few_bytes : (f : List ℕ) (p : Parsed) → decode f ≡ Result.value p → p.len ≤ 1_024

@@ -1,7 +1,6 @@
 -- A ladder is set up at both ends; "a write is one burst, its XFER_RDY taken and acknowledged".
 use Rattle.std.specs.Prelude.{ℕ, Bool, true, false, leb, None, unwrap_or}
 use Rattle.status.specs.Pick.{pick}
-use Rattle.status.specs.Number.{refusal_number}
 use Rattle.status.specs.Result.{Result}
 use Rattle.transfer.specs.declared.Transfer.{Transfer}
 use Rattle.sender.specs.Record as sender

@@ -65,8 +65,14 @@ pub(crate) fn arrive(r: Receiving, frame: &[u8], buffer: &mut [u8]) -> Stepped<R
     ensures { lending (stepped result) buffer.new ≡ arrive_of r frame.now buffer.old }
 {
     match r {
-        Receiving::Read(x) => onto(initiator::read_frame_received(x, frame, buffer), Receiving::Read),
-        Receiving::Write(x) => onto(target::write_frame_received(x, frame, buffer), Receiving::Write),
+        Receiving::Read(x) => onto(
+            initiator::read_frame_received(x, frame, buffer),
+            Receiving::Read,
+        ),
+        Receiving::Write(x) => onto(
+            target::write_frame_received(x, frame, buffer),
+            Receiving::Write,
+        ),
     }
 }
 

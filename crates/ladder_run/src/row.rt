@@ -74,13 +74,7 @@ fn open(l: Ladder) -> bool
 }
 
 // Frame f was handed out by a port that is left as s.
-fn sent(
-    l: Ladder,
-    s: Sending,
-    f: &[u8],
-    fates: &[u8],
-    received: &mut [u8],
-) -> Next<Option<Row>>
+fn sent(l: Ladder, s: Sending, f: &[u8], fates: &[u8], received: &mut [u8]) -> Next<Option<Row>>
     requires { l.frames < ROWS-MOST }
     ensures { next_line_by result received.new ≡ sent_of l s f.now fates.now received.old }
 {

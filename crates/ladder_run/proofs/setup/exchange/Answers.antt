@@ -15,4 +15,3 @@ pub slice_bounds-write_frame_received-end : goal.slice_bounds-write_frame_receiv
 slice_bounds-write_frame_received-end c =
     let most = issued_most c.args.y ((c.unwrap_or-n.ensures ∙ ap (λ (x : Option ℕ). unwrap_or x 0) c.handed.ensures) ∙ ap (λ (x : Left Target). handed_length x.says) c.write_next_frame-issued.ensures.0) in
     search rules
-
