@@ -124,7 +124,10 @@ pub(crate) fn frame_out(
     let mut area = [0; 1048];
     let x = ends::ask(l.sending, source, &mut area);
     match handed(x.answer) {
-        Some(n) => sent(l, x.left, &area[..n], fates, received),
+        Some(n) => {
+            prove!(n <= area.len());
+            sent(l, x.left, &area[..n], fates, received)
+        }
         None => nothing_due(l, x.left),
     }
 }

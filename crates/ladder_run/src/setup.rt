@@ -63,6 +63,7 @@ fn exchange(w: Writer, y: Target) -> Ladder
     let mut area = [0; 1048];
     let issued = target::write_next_frame(y, &mut area);
     let n = row::handed(issued.answer).unwrap_or(0);
+    prove!(n <= area.len());
     let taken = initiator::write_frame_received(w, &area[..n]);
     let acked = target::write_ack_received(issued.left);
     fresh(Sending::Write(taken.left), Receiving::Write(acked.left))
