@@ -108,8 +108,7 @@ module _ {P : Ports} (E : Embeds P) (start : World P) (end : ℕ) (fills : Fills
 
         fill : (q : Option Report) → x.report ≡ q → Filled (first_of x.report (report_of (signalled_of g x.sending).says)) (filled_of receiver) end
         fill None e n f = law e n (same ∙ ap on_link f)
-        fill (Some (Delivered m)) e n f = filled n (e ∙ ap (λ (q : Option Report). first_of q (report_of (signalled_of g x.sending).says)) (sym e) ∙ f)
-        fill (Some (Failed c m)) e n f = filled n (e ∙ ap (λ (q : Option Report). first_of q (report_of (signalled_of g x.sending).says)) (sym e) ∙ f)
+        fill (Some q) e n f = filled n (e ∙ ap (λ (q : Option Report). first_of q (report_of (signalled_of g x.sending).says)) (sym e) ∙ f)
 
   -- the first answer reaches the port
   answer_comes : {es : List (Event P)} (a : Confirmation) (confirmations : List Confirmation) {lost owed : ℕ} (x : Confirming) → Counting es (a ∷ confirmations) lost owed x → Counting (es ++ (Event.confirmed ∷ [])) confirmations lost owed (noted_of x (signalled_of (signal_of a) x.sending))

@@ -6,6 +6,7 @@ use sender::Sender;
 use target::Target;
 
 // The port that sends: a read's at the target, a write's at the initiator.
+// It and `Receiving` stay two enums: no function serves both, and one generic would name two ports at each use.
 #[derive(Clone, Copy)]
 pub enum Sending {
     Read(Sender),
