@@ -1,31 +1,23 @@
 -- Line after line, a ladder stands where link events have led, until it is over: then its last round is closed.
-use Prim.Native.Nat.{ℕ, zero, suc, ◌+◌, ◌<◌}
-use mathlib.Core.List.{List, [], ◌∷◌, ◌++◌, append-nil, append_assoc}
-use mathlib.Core.Logic.{◌⊎◌, inl, inr}
-use mathlib.Core.Path.{◌≡◌, refl, sym, subst, ◌∙◌}
-use native.Mathlib.Omega.{arith}
+use Prim.Native.Nat.{ℕ, ◌+◌, ◌<◌}
+use mathlib.Core.List.{List, [], ◌∷◌}
+use mathlib.Core.Path.{◌≡◌, subst}
 use lib.ListN.{length}
 use Rattle.std.specs.Prelude.{Option, Some, None}
 use Rattle.link.specs.Ports.{Ports}
 use Rattle.link.specs.World.{World, Event}
 use Rattle.ladder_text.specs.declared.types.Row.{Row}
-use Rattle.ladder_text.specs.declared.types.Verdict.{Verdict}
-use Rattle.ladder_run.specs.Row.{NextLine, ROWS-MOST, area, Sent, out_of}
-use Rattle.ladder_run.specs.Round.{closed_of}
-use Rattle.ladder_run.specs.Line.{begins, firstly, line_of}
-use Rattle.ladder_run.specs.Whole.{Whole, onward, climb}
+use Rattle.ladder_run.specs.Row.{ROWS-MOST, area, Sent, out_of}
+use Rattle.ladder_run.specs.Whole.{Whole, climb}
 use Rattle.ladder_run.specs.declared.types.Sending.{Sending}
-use Rattle.ladder_run.specs.declared.types.Line.{Line}
-use Rattle.ladder_run.specs.declared.types.Line.TheVariants as line
 use Rattle.ladder_run.specs.declared.types.Ladder.{Ladder}
 use Rattle.ladder_claim.specs.Claim.{on_link}
 use Rattle.ladder_claim.proofs.Embeds.{Embeds}
 use Rattle.ladder_claim.proofs.SendingCore.{SendsAs}
-use Rattle.ladder_claim.proofs.Course.{Course, j_most}
-use Rattle.ladder_claim.proofs.Going.{Live, Done}
-use Rattle.ladder_claim.proofs.Handing.{Asked, lent, shut, outs}
-use Rattle.ladder_claim.proofs.Answered.{closes, closed_frames}
-use Rattle.ladder_claim.proofs.Lines.{After, Climbed, climbs}
+use Rattle.ladder_claim.proofs.Course.{Course}
+use Rattle.ladder_claim.proofs.Going.{Live}
+use Rattle.ladder_claim.proofs.Handing.{lent, shut}
+use Rattle.ladder_claim.proofs.Lines.{After, climbs}
 use Rattle.ladder_claim.proofs.Stands.{Fills, Stands}
 use Rattle.ladder_claim.proofs.Waiting.{wait_idle}
 use Rattle.ladder_claim.proofs.Sent.{with_due, wait_due, out_stands}

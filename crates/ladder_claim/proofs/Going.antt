@@ -2,7 +2,7 @@
 use Prim.Native.Nat.{ℕ, ◌+◌, ◌≤◌}
 use mathlib.Core.Bool.{false}
 use mathlib.Core.Path.{◌≡◌}
-use Rattle.std.specs.Prelude.{Option, Some, None}
+use Rattle.std.specs.Prelude.{Option, None}
 use Rattle.sender_steps.specs.declared.types.Sender.{Sender}
 use Rattle.ladder_run.specs.Row.{silent}
 use Rattle.ladder_run.specs.declared.types.Sending.{Sending}

@@ -6,8 +6,8 @@ use mathlib.Core.Path.{◌≡◌, refl, sym, ap, subst, ◌∙◌}
 use native.Mathlib.Omega.{arith}
 use lib.Dec.{leb, ltb, eqb}
 use lib.ListN.{length, take, length-replicate}
-use borrow.Author.Tests.{le-leb, ltb-false, eqb-true, eqb-false, ne_eqb}
-use Rattle.std.specs.Prelude.{Option, Some, None}
+use borrow.Author.Tests.{le-leb, ltb-false, eqb-true, eqb-false}
+use Rattle.std.specs.Prelude.{Some, None}
 use Rattle.status.specs.Pick.{pick}
 use Rattle.status.specs.Answer.{Left}
 use Rattle.transfer.specs.declared.Transfer.{Transfer}

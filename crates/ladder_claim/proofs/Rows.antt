@@ -3,7 +3,6 @@ use Prim.Native.Nat.{ℕ, zero, suc, ◌+◌}
 use mathlib.Core.List.{List}
 use mathlib.Core.Bool.{Bool, true, false, cond}
 use mathlib.Core.Path.{◌≡◌, refl, subst}
-use lib.Dec.{eqb}
 use lib.ListN.{take}
 use Rattle.std.specs.Prelude.{Option, Some, None}
 use Rattle.status.specs.Pick.{pick}
