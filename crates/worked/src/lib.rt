@@ -1,3 +1,2 @@
-#![tactic(auto)]
-
 // Worked runs, tables, ladders and the starred rungs of the paper, each computed from the definitions. There is no code here.
+#![tactic(auto)]
