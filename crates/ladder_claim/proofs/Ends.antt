@@ -1,6 +1,6 @@
 -- Every ladder of a run within its limits ends with a report, after at most so many rows.
 use Prim.Native.Nat.{ℕ, ◌+◌, ◌-◌, ◌≤◌, ◌<◌}
-use mathlib.Core.List.{List}
+use mathlib.Core.List.{List, []}
 use mathlib.Core.Bool.{Bool, true, false}
 use mathlib.Core.Path.{◌≡◌, refl}
 use native.Mathlib.Nat.{zero-mul, lt_of_mul-lt-mul_right, div-add-mod'}
@@ -29,7 +29,7 @@ use Rattle.ladder_claim.proofs.Begun.{Within, within, target_limits, initiator_l
 use Rattle.ladder_claim.proofs.SendingCore.{SendsAs}
 use Rattle.ladder_claim.proofs.Course.{Course, place}
 use Rattle.ladder_claim.proofs.Going.{Going, Live}
-use Rattle.ladder_claim.proofs.Lines.{Climbed, climbs}
+use Rattle.ladder_claim.proofs.Lines.{Climbed, Any, climbs_any}
 use Rattle.ladder_claim.proofs.Rows.{climb_rows}
 
 -- 65,536 bytes in frames of four
@@ -81,14 +81,14 @@ module _ (r : Run) (w : Within r) (n : ℕ) (few : n ≤ FATES-MOST) (write : Bo
   begins x y a = record { going = starts x a; nothing = refl }
 
   -- a ladder x, line after line from its start
-  ended : (fs d : List ℕ) (lists : length fs ≡ n) (sent : length d ≡ r.count) (x : Whole) → Climbed course fs d lists sent 0 x → RowsFrom fs 0 x.rows → Ended r fs x
+  ended : (fs d : List ℕ) (lists : length fs ≡ n) (sent : length d ≡ r.count) (x : Whole) → Climbed course fs d lists sent Any Any 0 [] x → RowsFrom fs 0 x.rows → Ended r fs x
   ended fs d lists sent x c rows =
       let q = c.reports in
       record { reported = q.reported; number = q.number; frames = omega (arith, c.frames); counted = omega (arith, c.frames, q.counted); rows = rows; most = omega (arith, c.frames, q.bound) }
 
   from_start : (fs d b : List ℕ) (x : Sending) (y : Receiving) → length fs ≡ n → length d ≡ r.count → SendsAs x (beginning t (first_burst r)) → Ended r fs (whole_of fs d (fresh x y) b)
   from_start fs d b x y lists sent a =
-      ended fs d lists sent (whole_of fs d (fresh x y) b) (climbs course fs d lists sent (ROWS-MOST + 1) (fresh x y) b (begins x y a) (omega arith))
+      ended fs d lists sent (whole_of fs d (fresh x y) b) (climbs_any course fs d lists sent (ROWS-MOST + 1) (fresh x y) b (begins x y a) (omega arith))
       (climb_rows fs d (ROWS-MOST + 1) (fresh x y) b)
 
 -- in either direction, the port stands for the core's record

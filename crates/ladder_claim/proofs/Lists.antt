@@ -27,7 +27,7 @@ use Rattle.ladder_claim.proofs.Course.{Course}
 use Rattle.ladder_claim.proofs.Going.{Live}
 use Rattle.ladder_claim.proofs.Owed.{level_first, level_over}
 use Rattle.ladder_claim.proofs.Stands.{at, Fills, Stands}
-use Rattle.ladder_claim.proofs.Climbed.{AtLast, climb_stands}
+use Rattle.ladder_claim.proofs.Climbed.{Over, climb_stands}
 use Rattle.ladder_claim.proofs.Begun.{Begun, begun, within, target_limits, initiator_limits, read_sender, read_receiver, write_sender, write_target, read_starts, write_starts}
 use Rattle.ladder_claim.proofs.Filling.{read_filling, write_filling}
 use Rattle.ladder_claim.proofs.Ends.{course, begins, read_as, write_as}
@@ -67,17 +67,17 @@ module _ {P : Ports} (E : Embeds P) (r : Run) (s : P.Sending) (y : P.Receiving) 
       }
 
   module _ (k : ℕ) (enough : ROWS-MOST < k) where
-    at_last : AtLast E (delivers.fresh P s y d b) r.count o.fills o.course fs d o.lists o.sent [] (climbed k)
-    at_last = climb_stands E _ r.count o.fills o.course fs d o.lists o.sent k _ b [] o.live (omega arith) first_stands
+    at_last : Over E (delivers.fresh P s y d b) r.count o.fills o.course fs d o.lists o.sent (climbed k)
+    at_last = climb_stands E _ r.count o.fills o.course fs d o.lists o.sent k _ b o.live (omega arith) first_stands
 
     pub stands : Stands E (delivers.fresh P s y d b) r.count fs d (climbed k).last (climbed k).received (climbed k).rows []
-    stands = at_last.stands
+    stands = at_last.1
 
     none_left : stands.current ≡ []
-    none_left = (level_over fs stands.level at_last.over).0
+    none_left = (level_over fs stands.level at_last.0).0
 
     pub all_faults : stands.tally.faults ≡ faults_of fs (climbed k).last.frames
-    all_faults = (level_over fs stands.level at_last.over).1
+    all_faults = (level_over fs stands.level at_last.0).1
 
     -- the last round is over
     abbrev pub events : List (Event P)

@@ -3,12 +3,12 @@ use Prim.Native.Nat.{ℕ, zero, suc, ◌+◌, ◌-◌, ◌≤◌}
 use mathlib.Core.List.{List, [], ◌∷◌, ◌++◌}
 use mathlib.Core.Path.{◌≡◌, refl, sym, ap, subst, ◌∙◌}
 use native.Mathlib.Nat.{add-zero}
-use native.Mathlib.Numerals.{add-one}
 use native.Mathlib.Omega.{arith}
 use Rattle.ladder_text.specs.declared.types.Fate.{Fate}
 use Rattle.ladder_text.specs.declared.types.Fate.TheVariants.{Ok, Noack, Bad, Nonak, Lost}
 use Rattle.link.specs.Tally.{Confirmation, Tally}
 use Rattle.ladder_run.specs.Fates.{fate_of, fault, faults_of}
+use Rattle.ladder_run.proofs.InTurn.{faults_next}
 
 -- an answer joins where the frame arrived, whole or damaged
 abbrev pub joined : Fate → List Confirmation → List Confirmation
@@ -42,13 +42,15 @@ abbrev pub answers_in : List ℕ → ℕ → ℕ → List Confirmation
 answers_in fs zero n = []
 answers_in fs (suc k) n = joined (fate_of fs n) (answers_in fs k (n + 1))
 
+abbrev pub sum_in : (Fate → ℕ) → List ℕ → ℕ → ℕ → ℕ
+sum_in by fs zero n = 0
+sum_in by fs (suc k) n = by (fate_of fs n) + sum_in by fs k (n + 1)
+
 abbrev pub lost_in : List ℕ → ℕ → ℕ → ℕ
-lost_in fs zero n = 0
-lost_in fs (suc k) n = lost_by (fate_of fs n) + lost_in fs k (n + 1)
+lost_in = sum_in lost_by
 
 abbrev pub owed_in : List ℕ → ℕ → ℕ → ℕ
-owed_in fs zero n = 0
-owed_in fs (suc k) n = owed_by (fate_of fs n) + owed_in fs k (n + 1)
+owed_in = sum_in owed_by
 
 joined_append : (x : Fate) (a b : List Confirmation) → joined x a ++ b ≡ joined x (a ++ b)
 joined_append Ok a b = refl
@@ -72,16 +74,16 @@ module _ (fs : List ℕ) where
       ap (joined (fate_of fs n)) (answers_last k (n + 1) ∙ ap (λ (x : Fate). answers_in fs k (n + 1) ++ joined x []) (next_fate k n))
       ∙ sym (joined_append (fate_of fs n) _ _)
 
-  lost_last : (k n : ℕ) → lost_in fs (suc k) n ≡ lost_in fs k n + lost_by (fate_of fs (n + k))
-  lost_last zero n = ap (λ (i : ℕ). lost_by (fate_of fs i) + 0) (sym (add-zero n)) ∙ omega arith
-  lost_last (suc k) n = let e = lost_last k (n + 1) in let f = ap lost_by (next_fate k n) in omega arith
+  sum_last : (by : Fate → ℕ) (k n : ℕ) → sum_in by fs (suc k) n ≡ sum_in by fs k n + by (fate_of fs (n + k))
+  sum_last by zero n = ap (λ (i : ℕ). by (fate_of fs i) + 0) (sym (add-zero n)) ∙ omega arith
+  sum_last by (suc k) n = let e = sum_last by k (n + 1) in let f = ap by (next_fate k n) in omega arith
 
-  owed_last : (k n : ℕ) → owed_in fs (suc k) n ≡ owed_in fs k n + owed_by (fate_of fs (n + k))
-  owed_last zero n = ap (λ (i : ℕ). owed_by (fate_of fs i) + 0) (sym (add-zero n)) ∙ omega arith
-  owed_last (suc k) n = let e = owed_last k (n + 1) in let f = ap owed_by (next_fate k n) in omega arith
-
-  faults_last : (n : ℕ) → faults_of fs (n + 1) ≡ faults_of fs n + fault (fate_of fs n)
-  faults_last n = ap (faults_of fs) (add-one n)
+  -- a frame more of a round that began with frame m
+  sum_on : (by : Fate → ℕ) (n m : ℕ) → m ≤ n → sum_in by fs (n + 1 - m) m ≡ sum_in by fs (n - m) m + by (fate_of fs n)
+  sum_on by n m o =
+      let e : n + 1 - m ≡ suc (n - m) = omega arith in
+      let at : m + (n - m) ≡ n = omega arith in
+      ap (λ (k : ℕ). sum_in by fs k m) e ∙ sum_last by (n - m) m ∙ ap (λ (k : ℕ). sum_in by fs (n - m) m + by (fate_of fs k)) at
 
   -- n frames went out, those before this round m: the fates of this round, the answers on the way, and what is counted
   pub record Level (n m : ℕ) (current : List Fate) (confirmations : List Confirmation) (t : Tally) : Type 0 where
@@ -109,10 +111,6 @@ module _ (fs : List ℕ) where
       let o = l.order in
       let e : n + 1 - m ≡ suc (n - m) = omega arith in
       let at : m + (n - m) ≡ n = omega arith in
-      let lo : lost_in fs (n + 1 - m) m ≡ lost_in fs (n - m) m + lost_by (fate_of fs n) =
-      ap (λ (k : ℕ). lost_in fs k m) e ∙ lost_last (n - m) m ∙ ap (λ (k : ℕ). lost_in fs (n - m) m + lost_by (fate_of fs k)) at in
-      let ow : owed_in fs (n + 1 - m) m ≡ owed_in fs (n - m) m + owed_by (fate_of fs n) =
-      ap (λ (k : ℕ). owed_in fs k m) e ∙ owed_last (n - m) m ∙ ap (λ (k : ℕ). owed_in fs (n - m) m + owed_by (fate_of fs k)) at in
       record {
         order = omega arith;
         fates_are =
@@ -125,8 +123,8 @@ module _ (fs : List ℕ) where
             ∙ ap (λ (k : ℕ). answers_in fs (n - m) m ++ joined (fate_of fs k) []) (sym at)
             ∙ sym (answers_last (n - m) m)
             ∙ ap (λ (k : ℕ). answers_in fs k m) (sym e);
-        lost = omega (arith, l.lost);
-        faults = omega (arith, l.faults, faults_last n);
+        lost = omega (arith, l.lost, sum_on lost_by n m o);
+        faults = omega (arith, l.faults, sum_on owed_by n m o, faults_next fs n);
       }
 
   -- the round is over: every fault is counted

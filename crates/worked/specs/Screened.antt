@@ -1,7 +1,6 @@
 -- Frames that a read's initiator does not take: 7 and 8 by each byte of addresses and tag, and an XFER_RDY in a read. Proved in proofs/Screened.antt.
 use Rattle.std.specs.Prelude.{ℕ, List, [], ◌∷◌, ◌++◌, ◌≡◌, replicate}
-use Rattle.status.specs.Answer.{Said, Left}
-use Rattle.receiver_steps.specs.declared.types.Receiver.{Receiver}
+use Rattle.status.specs.Answer.{Said}
 use Rattle.worked.specs.Setting.{to_initiator}
 use Rattle.worked.specs.Response.{read, failed}
 

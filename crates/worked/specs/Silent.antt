@@ -8,7 +8,7 @@ use Rattle.initiator.specs.WriteRecord as initiator
 use Rattle.target.specs.Record as target
 use Rattle.target.specs.declared.types.Target.{Target}
 use Rattle.link.specs.Ports.{lending, Signal}
-use Rattle.link.specs.World.{World, Report, Event, ask, arrives, frame_lost, confirmed, timeout, other, at_receiver, run}
+use Rattle.link.specs.World.{World, Report, Event, ask, arrives, frame_lost, confirmed, timeout, other, at_receiver}
 use Rattle.link.specs.Writing.{write_ports}
 use Rattle.link.specs.Calls.{TargetCall, target_call}
 use Rattle.link.specs.ResponseTimeout.{after}
