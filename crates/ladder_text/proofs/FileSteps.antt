@@ -1,4 +1,5 @@
 -- The line at a place of a file, and the lines behind it.
+use Rattle.std.specs.Prelude.{Option, Some, is_some}
 use Prim.Native.Nat.{ℕ, ◌+◌, ◌≤◌, ◌<◌}
 use mathlib.Core.List.{List, [], ◌∷◌}
 use mathlib.Core.Bool.{Bool, true, false}
@@ -11,10 +12,9 @@ use Rattle.ladder_text.specs.Pick.{pick}
 use Rattle.ladder_text.specs.Text.{LF, lines, before, behind}
 use Rattle.ladder_text.specs.Words.{fate_of}
 use Rattle.ladder_text.specs.Rows.{run_of}
-use Rattle.ladder_text.specs.RunFile.{MOST-BYTES, is_fate, misfit, after_one, file_of}
-use Rattle.ladder_text.specs.declared.types.ReadFate.{ReadFate}
-use Rattle.ladder_text.specs.declared.types.ReadRun.{ReadRun}
-use Rattle.ladder_text.specs.declared.types.RunFile.TheVariants as file
+use Rattle.ladder_text.specs.RunFile.{MOST-BYTES, misfit, refused, after_one, file_of}
+use Rattle.ladder_text.specs.declared.types.Fate.{Fate}
+use Rattle.ladder_text.specs.declared.types.Run.{Run}
 use Rattle.ladder_text.proofs.Choose.{in_true, in_false}
 use Rattle.ladder_text.proofs.Cut.{drop_before, first_line, next_place}
 
@@ -30,14 +30,14 @@ unfolding lines
 lines_end s at p = ap lines (drop_of_length-le s p)
 
 -- the line l at place `at`, read as f, fits or not
-module _ (s : List ℕ) (at n : ℕ) {l : List ℕ} {f : ReadFate} {t : Bool} {x : ℕ} (is : l ≡ before LF (drop at s)) (read : f ≡ fate_of l) (fits : t ≡ is_fate f) (p : at < length s) (e : misfit n (lines (drop at s)) ≡ x) where
+module _ (s : List ℕ) (at n : ℕ) {l : List ℕ} {f : Option Fate} {t : Bool} {x : Option ℕ} (is : l ≡ before LF (drop at s)) (read : f ≡ fate_of l) (fits : t ≡ is_some f) (p : at < length s) (e : misfit n (lines (drop at s)) ≡ x) where
   here : misfit n (before LF (drop at s) ∷ lines (drop (at + length (before LF (drop at s)) + 1) s)) ≡ x
   here = rw (lines_at s at p) at e
 
-  fate_is : is_fate (fate_of (before LF (drop at s))) ≡ t
+  fate_is : is_some (fate_of (before LF (drop at s))) ≡ t
   fate_is = rw (← is, ← read) (sym fits)
 
-  pub misfit_here : t ≡ false → n ≡ x
+  pub misfit_here : t ≡ false → Some n ≡ x
   unfolding pick
   misfit_here q = rw (fate_is ∙ q) at here
 
@@ -46,16 +46,16 @@ module _ (s : List ℕ) (at n : ℕ) {l : List ℕ} {f : ReadFate} {t : Bool} {x
   misfit_next q = rw is (rw (fate_is ∙ q) at here)
 
 -- the whole file
-pub too_long : (b : List ℕ) → MOST-BYTES < length b → file.Refused 0 ≡ file_of b
+pub too_long : (b : List ℕ) → MOST-BYTES < length b → refused 0 ≡ file_of b
 unfolding file_of
 too_long b p = in_false _ _ _ _ (lt-leb (length b) MOST-BYTES p) refl
 
-pub no_line : (b : List ℕ) → length b ≡ 0 → file.Refused 1 ≡ file_of b
+pub no_line : (b : List ℕ) → length b ≡ 0 → refused 1 ≡ file_of b
 unfolding file_of lines pick
 no_line [] p = refl
 no_line (x ∷ xs) p = absurd (omega arith)
 
-pub of_lines : (b l : List ℕ) {m : ReadRun} → length b ≤ MOST-BYTES → (length b ≡ 0 → ⊥) → l ≡ before LF (drop 0 b) → m ≡ run_of l → file_of b ≡ after_one m (length l + 1) (lines (drop (length l + 1) b))
+pub of_lines : (b l : List ℕ) {m : Option Run} → length b ≤ MOST-BYTES → (length b ≡ 0 → ⊥) → l ≡ before LF (drop 0 b) → m ≡ run_of l → file_of b ≡ after_one m (length l + 1) (lines (drop (length l + 1) b))
 unfolding file_of
 of_lines b l p q is read =
     let some : 0 < length b = omega (arith, q) in

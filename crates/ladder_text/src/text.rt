@@ -1,34 +1,21 @@
 // Lines and fields.
-ghost use Rattle.std.specs.Prelude.{◌≡◌, ◌+◌, ◌≤◌, length, drop};
+ghost use Rattle.std.specs.Prelude.{◌≡◌, length};
 ghost use Rattle.ladder_text.specs.Text.{fields, before};
 ghost use Rattle.ladder_text.specs.Lent.{Shows, part_in, line_in, field_start, field_in};
 
-// The place of the first c from `at` on; the end where there is none.
-fn find(s: &[u8], at: usize, c: u8) -> usize
-    requires { at ≤ length s.now }
-    ensures within { result ≤ length s.now }
-    ensures place { result ≡ at + length (before c (drop at s.now)) }
+// How many bytes stand before the first c; all of them where there is none.
+fn count_before(s: &[u8], c: u8) -> usize
+    ensures { result ≡ length (before c s.now) }
 {
-    let mut i = at;
-    while i < s.len() {
-        if s[i] == c {
-            return i;
-        }
-        i += 1;
-    }
-    i
+    s.iter().position(|b| *b == c).unwrap_or(s.len())
 }
 
 // The bytes of s from `at`, or from the end where that is beyond, to the first c or to the end.
 fn part(s: &[u8], at: usize, c: u8) -> &[u8]
     ensures { Shows result s.entry (part_in c s.now at) }
 {
-    let n = s.len();
-    if n <= at {
-        return &s[n..n];
-    }
-    let e = find(s, at, c);
-    &s[at..e]
+    let rest = &s[at.min(s.len())..];
+    &rest[..count_before(rest, c)]
 }
 
 // The line that starts at `at`, without its line feed; the next starts one byte behind it.
@@ -43,13 +30,11 @@ fn field_start(l: &[u8], i: usize) -> usize
     ensures { result ≡ field_start l.now i }
 {
     let mut at = 0;
-    let mut left = i;
-    while 0 < left {
-        at = at + part(l, at, b'\t').len() + 1;
+    for _tab in 0..i {
+        at += part(l, at, b'\t').len() + 1;
         if l.len() < at {
             return l.len();
         }
-        left -= 1;
     }
     at
 }
@@ -66,13 +51,5 @@ pub fn field(l: &[u8], i: usize) -> &[u8]
 pub fn field_count(l: &[u8]) -> usize
     ensures { result ≡ length (fields l.now) }
 {
-    let mut n = 1;
-    let mut i = 0;
-    while i < l.len() {
-        if l[i] == b'\t' {
-            n += 1;
-        }
-        i += 1;
-    }
-    n
+    l.iter().filter(|b| **b == b'\t').count() + 1
 }
