@@ -9,7 +9,7 @@ use native.Mathlib.Omega.{arith}
 use borrow.Author.Tests.{le-leb, lt-leb}
 use lib.ListN.{length, drop, length-drop, drop_of_length-le}
 use Rattle.ladder_text.specs.Pick.{pick}
-use Rattle.ladder_text.specs.Text.{LF, lines, before, behind}
+use Rattle.ladder_text.specs.Text.{LF, lines, fields, before, behind}
 use Rattle.ladder_text.specs.Words.{fate_of}
 use Rattle.ladder_text.specs.Rows.{run_of}
 use Rattle.ladder_text.specs.RunFile.{MOST-BYTES, misfit, refused, after_one, file_of}
@@ -30,36 +30,30 @@ unfolding lines
 lines_end s at p = ap lines (drop_of_length-le s p)
 
 -- the line l at place `at`, read as f, fits or not
-module _ (s : List ℕ) (at n : ℕ) {l : List ℕ} {f : Option Fate} {t : Bool} {x : Option ℕ} (is : l ≡ before LF (drop at s)) (read : f ≡ fate_of l) (fits : t ≡ is_some f) (p : at < length s) (e : misfit n (lines (drop at s)) ≡ x) where
+module _ (s : List ℕ) (at n : ℕ) {l : List ℕ} {f : Option Fate} {x : Option ℕ} (is : l ≡ before LF (drop at s)) (read : f ≡ fate_of l) (p : at < length s) (e : misfit n (lines (drop at s)) ≡ x) where
   here : misfit n (before LF (drop at s) ∷ lines (drop (at + length (before LF (drop at s)) + 1) s)) ≡ x
   here = rw (lines_at s at p) at e
 
-  fate_is : is_some (fate_of (before LF (drop at s))) ≡ t
-  fate_is = rw (← is, ← read) (sym fits)
+  read_here : fate_of (before LF (drop at s)) ≡ f
+  read_here = rw (← is) (sym read)
 
-  pub misfit_here : t ≡ false → Some n ≡ x
+  pub misfit_here : is_some f ≡ false → Some n ≡ x
   unfolding pick
-  misfit_here q = rw (fate_is ∙ q) at here
+  misfit_here q = rw (ap is_some read_here ∙ q) at here
 
-  pub misfit_next : t ≡ true → misfit (n + 1) (lines (drop (at + length l + 1) s)) ≡ x
+  pub misfit_next : is_some f ≡ true → misfit (n + 1) (lines (drop (at + (length l + 1)) s)) ≡ x
   unfolding pick
-  misfit_next q = rw is (rw (fate_is ∙ q) at here)
+  misfit_next q =
+      let sums : at + (length l + 1) ≡ at + length l + 1 = omega arith in
+      rw (sums, is) (rw (ap is_some read_here ∙ q) at here)
 
 -- the whole file
-pub too_long : (b : List ℕ) → MOST-BYTES < length b → refused 0 ≡ file_of b
-unfolding file_of
-too_long b p = in_false _ _ _ _ (lt-leb (length b) MOST-BYTES p) refl
-
-pub no_line : (b : List ℕ) → length b ≡ 0 → refused 1 ≡ file_of b
-unfolding file_of lines pick
-no_line [] p = refl
-no_line (x ∷ xs) p = absurd (omega arith)
-
-pub of_lines : (b l : List ℕ) {m : Option Run} → length b ≤ MOST-BYTES → (length b ≡ 0 → ⊥) → l ≡ before LF (drop 0 b) → m ≡ run_of l → file_of b ≡ after_one m (length l + 1) (lines (drop (length l + 1) b))
-unfolding file_of
-of_lines b l p q is read =
-    let some : 0 < length b = omega (arith, q) in
+pub of_lines : (b l : List ℕ) {m : Option Run} → length b ≤ MOST-BYTES → l ≡ before LF (drop 0 b) → m ≡ run_of l → file_of b ≡ after_one m (length l + 1) (lines (drop (length l + 1) b))
+unfolding file_of lines fields run_of pick
+of_lines [] l p is read = rw (read, is) refl
+of_lines (x ∷ xs) l p is read =
+    let b = x ∷ xs in
     let n = length (before LF b) in
     let rest : drop (n + 1) b ≡ behind LF b = rw (add-one n) (drop_before LF b) in
-    let cut : lines b ≡ before LF b ∷ lines (drop (n + 1) b) = rw rest (some_lines b some) in
+    let cut : lines b ≡ before LF b ∷ lines (drop (n + 1) b) = rw rest (some_lines b (omega arith)) in
     sym (in_true _ _ _ _ (le-leb (length b) MOST-BYTES p) (rw (cut, read, is) refl))

@@ -21,7 +21,7 @@ pub puts_ended : (d e : List ℕ) (i r x : ℕ) (t : List ℕ) → i ≤ length 
 puts_ended d e i r x t room more p = puts_both d i t (x ∷ []) refl room p (puts_byte e r x (omega arith))
 
 -- fields with tabs between: the first with its tab, then the others
-puts_first : (d : List ℕ) (i : ℕ) (f g : List ℕ) (gs : List (List ℕ)) → i ≤ length d → {r s : ℕ} {e h : List ℕ} → Puts d i (ended TAB f) r e → Puts e r (joined (g ∷ gs)) s h → Puts d i (joined (f ∷ g ∷ gs)) s h
+pub puts_first : (d : List ℕ) (i : ℕ) (f g : List ℕ) (gs : List (List ℕ)) → i ≤ length d → {r s : ℕ} {e h : List ℕ} → Puts d i (ended TAB f) r e → Puts e r (joined (g ∷ gs)) s h → Puts d i (joined (f ∷ g ∷ gs)) s h
 puts_first d i f g gs room p q = puts_both d i (ended TAB f) (joined (g ∷ gs)) (sym (append_assoc f (TAB ∷ []) (joined (g ∷ gs)))) room p q
 
 puts_last : (d : List ℕ) (i : ℕ) (f : List ℕ) {r : ℕ} {e : List ℕ} → Puts d i f r e → Puts d i (joined (f ∷ [])) r e

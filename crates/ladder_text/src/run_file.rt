@@ -33,14 +33,9 @@ pub fn read_run_file(s: &[u8]) -> Result<RunFile, Misfit>
     if 65_536 < s.len() {
         return Err(Misfit { line: 0 });
     }
-    if s.is_empty() {
-        return Err(Misfit { line: 1 });
-    }
     let l = text::line(s, 0);
     let fates = l.len() + 1;
-    let Some(run) = rows::read_run(l) else {
-        return Err(Misfit { line: 1 });
-    };
+    let run = rows::read_run(l).ok_or(Misfit { line: 1 })?;
     match first_misfit(s, fates) {
         Some(line) => Err(Misfit { line }),
         None => Ok(RunFile { run, fates }),

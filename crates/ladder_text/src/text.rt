@@ -1,13 +1,13 @@
 // Lines and fields.
-ghost use Rattle.std.specs.Prelude.{◌≡◌, length};
-ghost use Rattle.ladder_text.specs.Text.{fields, before};
+ghost use Rattle.std.specs.Prelude.{◌≡◌, ◌==◌, length, position};
+ghost use Rattle.ladder_text.specs.Text.{fields};
 ghost use Rattle.ladder_text.specs.Lent.{Shows, part_in, line_in, field_start, field_in};
 
-// How many bytes stand before the first c; all of them where there is none.
-fn count_before(s: &[u8], c: u8) -> usize
-    ensures { result ≡ length (before c s.now) }
+// The index of the first c.
+fn find(s: &[u8], c: u8) -> Option<usize>
+    ensures { result ≡ position (λ x. x == c) s.now }
 {
-    s.iter().position(|b| *b == c).unwrap_or(s.len())
+    s.iter().position(|b| *b == c)
 }
 
 // The bytes of s from `at`, or from the end where that is beyond, to the first c or to the end.
@@ -15,7 +15,8 @@ fn part(s: &[u8], at: usize, c: u8) -> &[u8]
     ensures { Shows result s.entry (part_in c s.now at) }
 {
     let rest = &s[at.min(s.len())..];
-    &rest[..count_before(rest, c)]
+    let end = find(rest, c).unwrap_or(rest.len());
+    &rest[..end]
 }
 
 // The line that starts at `at`, without its line feed; the next starts one byte behind it.
