@@ -6,11 +6,10 @@ use Prim.Native.Nat.{ℕ, zero, suc, ◌+◌, ◌-◌, min, ◌≤◌, ◌<◌}
 use mathlib.Core.List.{List, [], ◌∷◌}
 use mathlib.Core.Bool.{Bool, true, false, cond, not}
 use mathlib.Core.Path.{◌≡◌, refl, sym, ap, ◌∙◌}
-use native.Mathlib.Numerals.{add-one}
 use native.Mathlib.Omega.{arith}
 use lib.ListN.{length, get_or, take, drop, drop_of_length-le, length-take, length-drop}
-use borrow.Author.Tests.{eq-eqb, ne_eqb, leb-true, leb-false, ltb-false}
-use lib.Seq.{drop-cons, drop-drop, take-length}
+use borrow.Author.Tests.{leb-true, leb-false, ltb-false}
+use lib.Seq.{drop-drop, take-length}
 use lib.Dec.{eqb, leb, ltb}
 use Rattle.ladder_text.specs.Pick.{pick}
 use Rattle.ladder_text.specs.Text.{LF, TAB, glue, lines, fields, before, behind}

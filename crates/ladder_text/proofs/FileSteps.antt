@@ -2,20 +2,20 @@
 use Rattle.std.specs.Prelude.{Option, Some, is_some}
 use Prim.Native.Nat.{ℕ, ◌+◌, ◌≤◌, ◌<◌}
 use mathlib.Core.List.{List, [], ◌∷◌}
-use mathlib.Core.Bool.{Bool, true, false}
+use mathlib.Core.Bool.{true, false}
 use mathlib.Core.Path.{◌≡◌, refl, sym, ap, ◌∙◌}
 use native.Mathlib.Numerals.{add-one}
 use native.Mathlib.Omega.{arith}
-use borrow.Author.Tests.{le-leb, lt-leb}
+use borrow.Author.Tests.{le-leb}
 use lib.ListN.{length, drop, length-drop, drop_of_length-le}
 use Rattle.ladder_text.specs.Pick.{pick}
 use Rattle.ladder_text.specs.Text.{LF, lines, fields, before, behind}
 use Rattle.ladder_text.specs.Words.{fate_of}
 use Rattle.ladder_text.specs.Rows.{run_of}
-use Rattle.ladder_text.specs.RunFile.{MOST-BYTES, misfit, refused, after_one, file_of}
+use Rattle.ladder_text.specs.RunFile.{MOST-BYTES, misfit, after_one, file_of}
 use Rattle.ladder_text.specs.declared.types.Fate.{Fate}
 use Rattle.ladder_text.specs.declared.types.Run.{Run}
-use Rattle.ladder_text.proofs.Choose.{in_true, in_false}
+use Rattle.ladder_text.proofs.Choose.{in_true}
 use Rattle.ladder_text.proofs.Cut.{drop_before, first_line, next_place}
 
 pub some_lines : (b : List ℕ) → 0 < length b → lines b ≡ before LF b ∷ lines (behind LF b)

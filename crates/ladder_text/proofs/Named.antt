@@ -1,16 +1,14 @@
 -- Words: the test for a word, and what `find` found.
-use Rattle.std.specs.Prelude.{Option, None, Some, cond, bytes_eq}
+use Rattle.std.specs.Prelude.{Some, cond, bytes_eq}
 use Prim.Native.Nat.{ℕ, ◌<◌}
 use mathlib.Core.List.{List, [], ◌∷◌}
-use mathlib.Core.Bool.{Bool, true, false, not, false≢true}
+use mathlib.Core.Bool.{Bool, true, false, not}
 use mathlib.Core.Path.{◌≡◌, refl, sym, ap, subst}
 use native.Mathlib.Omega.{arith}
-use mathlib.Core.Logic.{◌⊎◌, inl, inr, ⊎_elim}
 use lib.Dec.{eqb, leb}
-use borrow.Author.Tests.{eq-eqb, eqb-true, ne_eqb, leb-true}
+use borrow.Author.Tests.{ne_eqb, leb-true}
 use Rattle.std.proofs.lemmas.Slice.Eq.{bytes_eq-Decides}
 use Rattle.std.proofs.lemmas.Option.{same_Some, none-some}
-use Rattle.ladder_text.specs.Pick.{pick}
 use Rattle.ladder_text.specs.Text.{free}
 use Rattle.ladder_text.specs.Decimal.{decimal, is_digit, all_digits}
 use Rattle.ladder_text.specs.Words.{named}

@@ -1,7 +1,7 @@
 -- What a printer leaves in the lent buffer.
 use Rattle.std.specs.Prelude.{ℕ, ◌+◌, Bool, List, [], ◌∷◌, ◌++◌, ◌≡◌, length, take, drop, leb, Option, None, Some}
 use Rattle.ladder_text.specs.Pick.{pick}
-use Rattle.ladder_text.specs.Text.{LF, TAB}
+use Rattle.ladder_text.specs.Text.{LF}
 use Rattle.ladder_text.specs.Decimal.{decimal}
 
 -- t in d at place i, the rest unchanged

@@ -7,8 +7,8 @@ ghost use Rattle.ladder_text.specs.Rows.{run_text, row_text, verdict_text, refus
 ghost use Rattle.ladder_text.specs.Place.{ROOM, Puts, ended};
 
 use crate::decimal;
-use crate::words::Word;
 use crate::types::{Direction, Fate, Misfit, Outcome, Receipt, Row, Run, Verdict};
+use crate::words::Word;
 
 // What has a text: a number, a word, a line without its line feed.
 pub trait Printable: Copy {

@@ -48,13 +48,7 @@ impl Word for Fate {
     ghost all = { all_fates };
 
     fn all() -> &'static [Fate] {
-        &[
-            Fate::Ok,
-            Fate::Noack,
-            Fate::Bad,
-            Fate::Nonak,
-            Fate::Lost,
-        ]
+        &[Fate::Ok, Fate::Noack, Fate::Bad, Fate::Nonak, Fate::Lost]
     }
 
     fn word(self) -> &'static [u8] {
