@@ -102,7 +102,7 @@ first_line x (y ∷ ys) = go (eqb x LF) (first_line y ys)
 
 -- fields: there is a first one
 opened : (x : ℕ) (f : List (List ℕ)) (g : List ℕ) (r : List (List ℕ)) → f ≡ g ∷ r → glue x f ≡ (x ∷ g) ∷ drop 1 (glue x f)
-opened x [] g r e = let z : ◌≡◌ {A = ℕ} 0 1 = cc in absurd (omega arith)
+opened x [] g r e = absurd cc
 opened x (h ∷ s) g r e =
     let same : h ≡ g = cc in
     ap (λ (l : List ℕ). (x ∷ l) ∷ s) same
@@ -188,7 +188,7 @@ unfolding pick fields
 count_other x xs e = rw e (go (fields xs) (first_field xs))
   where
     go : (f : List (List ℕ)) {g : List ℕ} {r : List (List ℕ)} → f ≡ g ∷ r → length (glue x f) ≡ length f
-    go [] e = let z : ◌≡◌ {A = ℕ} 0 1 = cc in absurd (omega arith)
+    go [] e = absurd cc
     go (h ∷ s) e = refl
 
 -- one more than the tabs

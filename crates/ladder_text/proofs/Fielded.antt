@@ -4,7 +4,6 @@ use Prim.Native.Nat.{ℕ, zero, suc, ◌+◌, ◌≤◌}
 use mathlib.Core.List.{List, [], ◌∷◌}
 use mathlib.Core.Bool.{true}
 use mathlib.Core.Path.{◌≡◌, refl, sym, ap, ◌∙◌}
-use native.Mathlib.Omega.{arith}
 use lib.ListN.{length, get_or}
 use lib.Dec.{eqb}
 use borrow.Author.Tests.{eqb-true}
@@ -66,7 +65,7 @@ quad_again l i q e = go (number_at l i) (number_at l (i + 1)) (number_at l (i + 
         let z = (numbers MOST).again (field_at l (i + 3)) d t in
         let r : QuadFits m × Side l i m = (record { a = w.0; b = x.0; c = y.0; d = z.0 }, record { a = sym w.1; b = sym x.1; c = sym y.1; d = sym z.1 }) in
         rw same at r
-    go None b c d p r s t e = let z : ◌≡◌ {A = ℕ} 0 1 = cc in absurd (omega arith)
-    go (Some a) None c d p r s t e = let z : ◌≡◌ {A = ℕ} 0 1 = cc in absurd (omega arith)
-    go (Some a) (Some b) None d p r s t e = let z : ◌≡◌ {A = ℕ} 0 1 = cc in absurd (omega arith)
-    go (Some a) (Some b) (Some c) None p r s t e = let z : ◌≡◌ {A = ℕ} 0 1 = cc in absurd (omega arith)
+    go None b c d p r s t e = absurd cc
+    go (Some a) None c d p r s t e = absurd cc
+    go (Some a) (Some b) None d p r s t e = absurd cc
+    go (Some a) (Some b) (Some c) None p r s t e = absurd cc

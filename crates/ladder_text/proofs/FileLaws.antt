@@ -70,7 +70,7 @@ fates_again n (l ∷ ls) e = go (fate_of l) refl e (fates_again (n + 1) ls)
   where
     go : (f : Option Fate) → fate_of l ≡ f → pick (is_some f) (misfit (n + 1) ls) (Some n) ≡ None → (misfit (n + 1) ls ≡ None → map fate_word (fates_of ls) ≡ ls) → fate_word (fate_or (fate_of l)) ∷ map fate_word (fates_of ls) ≡ l ∷ ls
     go (Some f) q e more = rw (q, (fates.again l f q).1, more e) refl
-    go None q e more = let z : ◌≡◌ {A = ℕ} 0 1 = cc in absurd (omega arith)
+    go None q e more = absurd cc
 
 abbrev file_is : Run → ℕ → RunFile
 file_is r at = record { run = r; fates = at }
@@ -95,7 +95,7 @@ module _ (b l : List ℕ) (ls : List (List ℕ)) (r : Run) (at : ℕ) (cut : lin
       let more : map fate_word (fates_at b at) ≡ ls =
       ap (λ (k : ℕ). map fate_word (fates_at b k)) (sym place) ∙ ap (λ (x : List (List ℕ)). map fate_word (fates_of x)) (sym rest) ∙ fates_again 2 ls p in
       (a.0, ap (λ (x : List ℕ). unlines (x ∷ map fate_word (fates_at b at))) a.1 ∙ ap (λ (x : List (List ℕ)). unlines (l ∷ x)) more ∙ ap unlines (sym cut) ∙ lines_print_again b)
-  again_one s (Some n) p q e = let z : ◌≡◌ {A = ℕ} 0 1 = cc in absurd (omega arith)
+  again_one s (Some n) p q e = absurd cc
 
   again_from : file_of b ≡ taken r at → (within_limits r ≡ true) × (file_text r (fates_at b at) ≡ finished b)
   unfolding file_of pick
@@ -103,12 +103,12 @@ module _ (b l : List ℕ) (ls : List (List ℕ)) (r : Run) (at : ℕ) (cut : lin
     where
       go : (t : Bool) (m : Option Run) → run_of l ≡ m → pick t (after_one m (length l + 1) ls) (refused 0) ≡ taken r at → (within_limits r ≡ true) × (file_text r (fates_at b at) ≡ finished b)
       go true (Some s) q e = again_one s (misfit 2 ls) refl q e
-      go true None q e = let z : ◌≡◌ {A = ℕ} 0 1 = cc in absurd (omega arith)
-      go false m q e = let z : ◌≡◌ {A = ℕ} 0 1 = cc in absurd (omega arith)
+      go true None q e = absurd cc
+      go false m q e = absurd cc
 
 pub files_print_again : FilesPrintAgain
 unfolding file_of lines pick
-files_print_again [] r at e = let z : ◌≡◌ {A = ℕ} 0 1 = cc in absurd (omega arith)
+files_print_again [] r at e = absurd cc
 files_print_again (x ∷ xs) r at e =
     let b = x ∷ xs in
     let n = length (before LF b) in

@@ -64,10 +64,10 @@ row_again b r e = go (eqb (length (fields b)) 6) (quad_at b 0) (fate_of (field_a
         let fits : RowFits s = record { frame = n.0.a; offset = n.0.b; bytes = n.0.c; cdp = n.0.d; receipt = y.0 } in
         let text : row_text s ≡ b = rw (← m.a, ← m.b, ← m.c, ← m.d, (fates.again (field_at b 4) f h).1, y.1) (line_is b 6 p) in
         subst (λ (z : Row). RowFits z × (row_text z ≡ b)) w (fits, text)
-    go true (Some q) (Some f) None p g h k e = let z : ◌≡◌ {A = ℕ} 0 1 = cc in absurd (omega arith)
-    go true (Some q) None x p g h k e = let z : ◌≡◌ {A = ℕ} 0 1 = cc in absurd (omega arith)
-    go true None f x p g h k e = let z : ◌≡◌ {A = ℕ} 0 1 = cc in absurd (omega arith)
-    go false q f x p g h k e = let z : ◌≡◌ {A = ℕ} 0 1 = cc in absurd (omega arith)
+    go true (Some q) (Some f) None p g h k e = absurd cc
+    go true (Some q) None x p g h k e = absurd cc
+    go true None f x p g h k e = absurd cc
+    go false q f x p g h k e = absurd cc
 
 pub rows : Rows
 rows = record { back = row_back; again = row_again }
@@ -106,9 +106,9 @@ verdict_again b v e = go (eqb (length (fields b)) 5) (outcome_of (field_at b 0))
         let fits : VerdictFits s = record { number = n.0.a; frames = n.0.b; faults = n.0.c; filled = n.0.d } in
         let text : verdict_text s ≡ b = rw ((outcomes.again (field_at b 0) o f).1, ← m.a, ← m.b, ← m.c, ← m.d) (line_is b 5 p) in
         subst (λ (x : Verdict). VerdictFits x × (verdict_text x ≡ b)) w (fits, text)
-    go true (Some o) None p f g e = let z : ◌≡◌ {A = ℕ} 0 1 = cc in absurd (omega arith)
-    go true None q p f g e = let z : ◌≡◌ {A = ℕ} 0 1 = cc in absurd (omega arith)
-    go false o q p f g e = let z : ◌≡◌ {A = ℕ} 0 1 = cc in absurd (omega arith)
+    go true (Some o) None p f g e = absurd cc
+    go true None q p f g e = absurd cc
+    go false o q p f g e = absurd cc
 
 pub verdicts : Verdicts
 verdicts = record { back = verdict_back; again = verdict_again }
@@ -130,8 +130,8 @@ refused_again b n e = go (eqb (length (fields b)) 2) (bytes_eq (field_at b 0) re
         let m = (numbers MOST).again (field_at b 1) n e in
         let word = (bytes_eq-Decides (field_at b 0) refused_word).0 q in
         (m.0, ap (λ (w : List ℕ). joined (w ∷ decimal n ∷ [])) (sym word) ∙ ap (λ (d : List ℕ). joined (field_at b 0 ∷ d ∷ [])) m.1 ∙ line_is b 2 p)
-    go true false p q e = let z : ◌≡◌ {A = ℕ} 0 1 = cc in absurd (omega arith)
-    go false u p q e = let z : ◌≡◌ {A = ℕ} 0 1 = cc in absurd (omega arith)
+    go true false p q e = absurd cc
+    go false u p q e = absurd cc
 
 pub refusals : Refusals
 refusals = record { back = refused_back; again = refused_again }

@@ -75,9 +75,9 @@ prints_again most b n e = go (opens b) (all_digits b) (leb (value b) most) refl 
     go true true true p q r e =
         let v : value b ≡ n = cc in
         (omega (arith, leb-true (value b) most r), ap decimal (sym v) ∙ decimal_value b p q)
-    go true true false p q r e = let z : ◌≡◌ {A = ℕ} 0 1 = cc in absurd (omega arith)
-    go true false w p q r e = let z : ◌≡◌ {A = ℕ} 0 1 = cc in absurd (omega arith)
-    go false u w p q r e = let z : ◌≡◌ {A = ℕ} 0 1 = cc in absurd (omega arith)
+    go true true false p q r e = absurd cc
+    go true false w p q r e = absurd cc
+    go false u w p q r e = absurd cc
 
 pub numbers : Numbers
 numbers most = record { back = reads_back most; again = prints_again most }

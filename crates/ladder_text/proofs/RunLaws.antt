@@ -49,7 +49,7 @@ module _ (r : Run) where
 within : (s r : Run) (t : Bool) → within_limits s ≡ t → pick t (Some s) None ≡ Some r → (within_limits s ≡ true) × (s ≡ r)
 unfolding pick
 within s r true p e = (p, cc)
-within s r false p e = let z : ◌≡◌ {A = ℕ} 0 1 = cc in absurd (omega arith)
+within s r false p e = absurd cc
 
 run_again : (b : List ℕ) (r : Run) → run_of b ≡ Some r → (within_limits r ≡ true) × (run_text r ≡ b)
 unfolding run_of pick
@@ -62,9 +62,9 @@ run_again b r e = go (eqb (length (fields b)) 5) (direction_of (field_at b 0)) (
         let k = (quad_again b 1 q g).1 in
         let text : run_text s ≡ b = rw ((directions.again (field_at b 0) d f).1, ← k.a, ← k.b, ← k.c, ← k.d) (line_is b 5 p) in
         subst (λ (x : Run). (within_limits x ≡ true) × (run_text x ≡ b)) w.1 (w.0, text)
-    go true (Some d) None p f g e = let z : ◌≡◌ {A = ℕ} 0 1 = cc in absurd (omega arith)
-    go true None q p f g e = let z : ◌≡◌ {A = ℕ} 0 1 = cc in absurd (omega arith)
-    go false d q p f g e = let z : ◌≡◌ {A = ℕ} 0 1 = cc in absurd (omega arith)
+    go true (Some d) None p f g e = absurd cc
+    go true None q p f g e = absurd cc
+    go false d q p f g e = absurd cc
 
 pub runs : Runs
 runs = record { back = run_back; again = run_again }

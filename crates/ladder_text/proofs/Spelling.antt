@@ -67,15 +67,6 @@ at_number (suc (suc (suc zero))) p = refl
 at_number (suc (suc (suc (suc zero)))) p = refl
 at_number (suc (suc (suc (suc (suc n))))) p = absurd (omega arith)
 
--- a number that is none of the first four is that of `lost`
-pub past_nonak : (n : ℕ) → (n ≡ 0 → ⊥) → (n ≡ 1 → ⊥) → (n ≡ 2 → ⊥) → (n ≡ 3 → ⊥) → Lost ≡ fate_at n
-past_nonak zero p q r s = absurd (p refl)
-past_nonak (suc zero) p q r s = absurd (q refl)
-past_nonak (suc (suc zero)) p q r s = absurd (r refl)
-past_nonak (suc (suc (suc zero))) p q r s = absurd (s refl)
-past_nonak (suc (suc (suc (suc zero)))) p q r s = refl
-past_nonak (suc (suc (suc (suc (suc n))))) p q r s = refl
-
 pub fate_numbers : FateNumbers
 fate_numbers = (number_back, at_number)
 
@@ -103,13 +94,13 @@ receipt_back (receipt.Number n) p =
 
 -- a number is the word of a receipt too
 receipt_number : (b : List ℕ) (x : Receipt) (n : Option ℕ) → number_of MOST b ≡ n → option_map receipt.Number n ≡ Some x → ReceiptFits x × (receipt_word x ≡ b)
-receipt_number b receipt.Stored (Some n) p e = let z : ◌≡◌ {A = ℕ} 0 1 = cc in absurd (omega arith)
-receipt_number b receipt.Discarded (Some n) p e = let z : ◌≡◌ {A = ℕ} 0 1 = cc in absurd (omega arith)
-receipt_number b receipt.Nothing (Some n) p e = let z : ◌≡◌ {A = ℕ} 0 1 = cc in absurd (omega arith)
+receipt_number b receipt.Stored (Some n) p e = absurd cc
+receipt_number b receipt.Discarded (Some n) p e = absurd cc
+receipt_number b receipt.Nothing (Some n) p e = absurd cc
 receipt_number b (receipt.Number m) (Some n) p e =
     let same_number : n ≡ m = cc in
     rw same_number at ((numbers MOST).again b n p)
-receipt_number b x None p e = let z : ◌≡◌ {A = ℕ} 0 1 = cc in absurd (omega arith)
+receipt_number b x None p e = absurd cc
 
 receipt_again : (b : List ℕ) (x : Receipt) (w : Option Receipt) → named receipt_word word_receipts b ≡ w → option_or w (option_map receipt.Number (number_of MOST b)) ≡ Some x → ReceiptFits x × (receipt_word x ≡ b)
 receipt_again b x (Some y) p e = found receipt_word ReceiptFits word_receipts (tt, (tt, (tt, tt))) b x (p ∙ e)
