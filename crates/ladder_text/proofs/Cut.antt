@@ -156,19 +156,19 @@ start_next (x ∷ xs) m = go (eqb x TAB) (start_next xs m)
     go true e = omega (arith, start_within xs m)
     go false e = omega arith
 
--- the search for field i: from `at`, where the part q stands, `left` tabs are to pass
-module _ (l q : List ℕ) (at left : ℕ) {k : ℕ} (is : q ≡ before TAB (drop at l)) (e : at + field_start (drop at l) left ≡ k) (p : 0 < left) where
+-- the search for field i: from `at`, where the part q stands, `left` tabs are to pass, and m behind the first
+module _ (l q : List ℕ) (at left m : ℕ) {k : ℕ} (is : q ≡ before TAB (drop at l)) (e : at + field_start (drop at l) left ≡ k) (p : m + 1 ≡ left) where
   abbrev past : ℕ
   past = at + (length q + 1)
 
-  jump : at + min (length (drop at l)) (length q + 1 + field_start (drop past l) (left - 1)) ≡ k
+  jump : at + min (length (drop at l)) (length q + 1 + field_start (drop past l) m) ≡ k
   jump =
-      let one : suc (left - 1) ≡ left = omega arith in
+      let one : suc m ≡ left = omega arith in
       let sums : at + (length q + 1) ≡ at + length q + 1 = omega arith in
-      rw (sums, is, next_place TAB at l, ← start_next (drop at l) (left - 1), one) e
+      rw (sums, is, next_place TAB at l, ← start_next (drop at l) m, one) e
 
-  pub passed : past ≤ length l → past + field_start (drop past l) (left - 1) ≡ k
-  passed room = omega (arith, jump, length-drop at l, start_within (drop past l) (left - 1), length-drop past l)
+  pub passed : past ≤ length l → past + field_start (drop past l) m ≡ k
+  passed room = omega (arith, jump, length-drop at l, start_within (drop past l) m, length-drop past l)
 
   pub none_left : at ≤ length l → length l < past → length l ≡ k
   none_left inside out = omega (arith, jump, length-drop at l)

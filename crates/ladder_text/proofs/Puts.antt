@@ -31,3 +31,5 @@ puts_last d i f p =
 
 pub puts_two : (d : List ℕ) (i : ℕ) (f g : List ℕ) → i ≤ length d → {r s : ℕ} {e h : List ℕ} → Puts d i (ended TAB f) r e → Puts e r g s h → Puts d i (joined (f ∷ g ∷ [])) s h
 puts_two d i f g room {r} {s} {e} p q = puts_first d i f g [] room p (puts_last e r g q)
+
+pub ruleset printing = (placed_then, placed_byte, append_assoc, append-nil, length-append)

@@ -46,6 +46,7 @@ pub fn read_number(s: &[u8], most: u32) -> Option<u32>
 }
 
 // Prints n at `at`; answers the place behind it.
+#[tactic(auto, using(crate::proofs::Printed::printed))]
 pub(crate) fn print_number(out: &mut [u8], at: usize, n: u32) -> usize
     requires { at + length (decimal n) ≤ length out.old }
     ensures { Puts out.old at (decimal n) result out.new }

@@ -27,6 +27,7 @@ pub trait Printable: Copy {
 }
 
 // The word w.
+#[tactic(auto, using(crate::proofs::Place::copied))]
 fn print_word(out: &mut [u8], at: usize, w: &[u8]) -> usize
     requires { at + length w.now ≤ length out.old }
     ensures { Puts out.old at w.now result out.new }
@@ -37,6 +38,7 @@ fn print_word(out: &mut [u8], at: usize, w: &[u8]) -> usize
 }
 
 // A text, and the byte that ends it.
+#[tactic(auto, using(crate::proofs::Puts::printing))]
 pub(crate) fn print_ended<T: Printable>(out: &mut [u8], at: usize, x: T, end: u8) -> usize
     requires { at + T.most < length out.old }
     ensures short { length (ended end (T.text x)) ≤ T.most + 1 }
@@ -119,6 +121,7 @@ impl Printable for Run {
 
     ghost most = { 49 };
 
+    #[tactic(auto, using(crate::proofs::Puts::printing))]
     fn print(self, out: &mut [u8], at: usize) -> usize {
         let p = print_ended(out, at, self.direction, b'\t');
         let p = print_ended(out, p, self.count, b'\t');
@@ -136,6 +139,7 @@ impl Printable for Row {
 
     ghost most = { 60 };
 
+    #[tactic(auto, using(crate::proofs::Puts::printing))]
     fn print(self, out: &mut [u8], at: usize) -> usize {
         let p = print_ended(out, at, self.frame, b'\t');
         let p = print_ended(out, p, self.offset, b'\t');
@@ -154,6 +158,7 @@ impl Printable for Verdict {
 
     ghost most = { 53 };
 
+    #[tactic(auto, using(crate::proofs::Puts::printing))]
     fn print(self, out: &mut [u8], at: usize) -> usize {
         let p = print_ended(out, at, self.outcome, b'\t');
         let p = print_ended(out, p, self.number, b'\t');
@@ -171,6 +176,7 @@ impl Printable for Misfit {
 
     ghost most = { 18 };
 
+    #[tactic(auto, using(crate::proofs::Puts::printing))]
     fn print(self, out: &mut [u8], at: usize) -> usize {
         let p = print_word(out, at, b"refused\t");
         self.line.print(out, p)

@@ -11,6 +11,7 @@ fn find(s: &[u8], c: u8) -> Option<usize>
 }
 
 // The bytes of s from `at`, or from the end where that is beyond, to the first c or to the end.
+#[tactic(auto, using(crate::proofs::Cut::part_within, crate::proofs::Cut::part_is))]
 fn part(s: &[u8], at: usize, c: u8) -> &[u8]
     ensures { Shows result s.entry (part_in c s.now at) }
 {
@@ -27,6 +28,7 @@ pub fn line(s: &[u8], at: usize) -> &[u8]
 }
 
 // Where field i of a line starts, counted from 0; the end where there is none.
+#[tactic(auto, using(crate::proofs::Cut::passed, crate::proofs::Cut::none_left, crate::proofs::Cut::arrived))]
 fn field_start(l: &[u8], i: usize) -> usize
     ensures { result ≡ field_start l.now i }
 {
@@ -41,6 +43,7 @@ fn field_start(l: &[u8], i: usize) -> usize
 }
 
 // Field i of a line, counted from 0, without its tab; empty where there is none.
+#[tactic(auto, using(crate::proofs::Cut::field_there, crate::proofs::Cut::start_within))]
 pub fn field(l: &[u8], i: usize) -> &[u8]
     ensures { Shows result l.entry (field_in l.now i) }
 {
@@ -49,6 +52,7 @@ pub fn field(l: &[u8], i: usize) -> &[u8]
 }
 
 // How many fields a line has: one more than its tabs.
+#[tactic(auto, using(crate::proofs::Cut::count_fields))]
 pub fn field_count(l: &[u8]) -> usize
     ensures { result ≡ length (fields l.now) }
 {
