@@ -6,16 +6,15 @@ use mathlib.Core.Bool.{true, false}
 use mathlib.Core.Path.{◌≡◌, refl, sym, ap, ◌∙◌}
 use native.Mathlib.Numerals.{add-one}
 use native.Mathlib.Omega.{arith}
-use borrow.Author.Tests.{le-leb}
+use borrow.Author.Tests.{le-leb, lt-leb}
 use lib.ListN.{length, drop, length-drop, drop_of_length-le}
 use Rattle.ladder_text.specs.Pick.{pick}
 use Rattle.ladder_text.specs.Text.{LF, lines, fields, before, behind}
 use Rattle.ladder_text.specs.Words.{fate_of}
 use Rattle.ladder_text.specs.Rows.{run_of}
-use Rattle.ladder_text.specs.RunFile.{MOST-BYTES, misfit, after_one, file_of}
+use Rattle.ladder_text.specs.RunFile.{MOST-BYTES, misfit, refused, after_one, file_of}
 use Rattle.ladder_text.specs.declared.types.Fate.{Fate}
-use Rattle.ladder_text.specs.declared.types.Run.{Run}
-use Rattle.ladder_text.proofs.Choose.{in_true}
+use Rattle.ladder_text.proofs.Choose.{in_true, in_false}
 use Rattle.ladder_text.proofs.Cut.{drop_before, first_line, next_place}
 
 pub some_lines : (b : List ℕ) → 0 < length b → lines b ≡ before LF b ∷ lines (behind LF b)
@@ -48,12 +47,16 @@ module _ (s : List ℕ) (at n : ℕ) {l : List ℕ} {f : Option Fate} {x : Optio
       rw (sums, is) (rw (ap is_some read_here ∙ q) at here)
 
 -- the whole file
-pub of_lines : (b l : List ℕ) {m : Option Run} → length b ≤ MOST-BYTES → l ≡ before LF (drop 0 b) → m ≡ run_of l → file_of b ≡ after_one m (length l + 1) (lines (drop (length l + 1) b))
+pub too_long : (b : List ℕ) → MOST-BYTES < length b → file_of b ≡ refused 0
+unfolding file_of
+too_long b p = sym (in_false _ _ _ _ (lt-leb (length b) MOST-BYTES p) refl)
+
+pub of_lines : (b : List ℕ) → length b ≤ MOST-BYTES → file_of b ≡ after_one (run_of (before LF b)) (length (before LF b) + 1) (lines (drop (length (before LF b) + 1) b))
 unfolding file_of lines fields run_of pick
-of_lines [] l p is read = rw (read, is) refl
-of_lines (x ∷ xs) l p is read =
+of_lines [] p = refl
+of_lines (x ∷ xs) p =
     let b = x ∷ xs in
     let n = length (before LF b) in
     let rest : drop (n + 1) b ≡ behind LF b = rw (add-one n) (drop_before LF b) in
     let cut : lines b ≡ before LF b ∷ lines (drop (n + 1) b) = rw rest (some_lines b (omega arith)) in
-    sym (in_true _ _ _ _ (le-leb (length b) MOST-BYTES p) (rw (cut, read, is) refl))
+    sym (in_true _ _ _ _ (le-leb (length b) MOST-BYTES p) (rw cut refl))

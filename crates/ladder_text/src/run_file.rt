@@ -27,7 +27,7 @@ fn first_misfit(s: &[u8], from: usize) -> Option<u32>
 }
 
 // A whole run file, any bytes.
-#[tactic(auto, using(crate::proofs::FileSteps::of_lines), unfolding(crate::specs::RunFile::file_of, crate::specs::Pick::pick))]
+#[tactic(auto, using(crate::proofs::FileSteps::too_long, crate::proofs::FileSteps::of_lines, std::proofs::lemmas::Result::err_from_is_err_and))]
 pub fn read_run_file(s: &[u8]) -> Result<RunFile, Misfit>
     ensures { result ≡ file_of s.now }
 {
