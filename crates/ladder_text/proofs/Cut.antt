@@ -156,22 +156,23 @@ start_next (x ∷ xs) m = go (eqb x TAB) (start_next xs m)
     go true e = omega (arith, start_within xs m)
     go false e = omega arith
 
--- the search for field i: from `at`, where the part q stands, `left` tabs are to pass, and m behind the first
-module _ (l q : List ℕ) (at left m : ℕ) {k : ℕ} (is : q ≡ before TAB (drop at l)) (e : at + field_start (drop at l) left ≡ k) (p : m + 1 ≡ left) where
+-- the search for field i: from `at`, `left` tabs are to pass, and m behind the next
+module _ (l : List ℕ) (at left m : ℕ) (p : m + 1 ≡ left) where
   abbrev past : ℕ
-  past = at + (length q + 1)
+  past = at + (length (before TAB (drop at l)) + 1)
 
-  jump : at + min (length (drop at l)) (length q + 1 + field_start (drop past l) m) ≡ k
+  jump : at + field_start (drop at l) left ≡ at + min (length (drop at l)) (length (before TAB (drop at l)) + 1 + field_start (drop past l) m)
   jump =
-      let one : suc m ≡ left = omega arith in
-      let sums : at + (length q + 1) ≡ at + length q + 1 = omega arith in
-      rw (sums, is, next_place TAB at l, ← start_next (drop at l) m, one) e
+      let one : left ≡ suc m = omega arith in
+      let sums : past ≡ at + length (before TAB (drop at l)) + 1 = omega arith in
+      rw (one, sums, next_place TAB at l, start_next (drop at l) m) refl
 
-  pub passed : past ≤ length l → past + field_start (drop past l) m ≡ k
+  pub passed : past ≤ length l → at + field_start (drop at l) left ≡ past + field_start (drop past l) m
   passed room = omega (arith, jump, length-drop at l, start_within (drop past l) m, length-drop past l)
 
-  pub none_left : at ≤ length l → length l < past → length l ≡ k
-  none_left inside out = omega (arith, jump, length-drop at l)
+-- no tab is left to pass
+pub none_left : (l : List ℕ) (at left : ℕ) → 0 < left → at ≤ length l → length l < at + (length (before TAB (drop at l)) + 1) → at + field_start (drop at l) left ≡ length l
+none_left l at left p inside out = omega (arith, jump l at left (left - 1) (omega arith), length-drop at l)
 
 pub arrived : (l : List ℕ) (at left : ℕ) {k : ℕ} → left ≤ 0 → at + field_start (drop at l) left ≡ k → at ≡ k
 arrived l at left p e =

@@ -1,11 +1,10 @@
 -- Decimal numbers: the steps of the reader, and the two laws, printed and read back, read and printed again.
-use Rattle.std.specs.Prelude.{Option, None}
+use Rattle.std.specs.Prelude.{None}
 use Prim.Native.Nat.{ℕ, zero, suc, ◌+◌, ◌-◌, ◌*◌, ◌/◌, ◌%◌, ◌≤◌, ◌<◌}
 use mathlib.Core.List.{List, [], ◌∷◌, ◌++◌}
 use mathlib.Core.Bool.{Bool, true, false}
 use mathlib.Core.Path.{◌≡◌, refl, sym, ap}
 use native.Mathlib.Omega.{arith}
-use native.Mathlib.Numerals.{add-one}
 use lib.ListN.{length, get_or, drop}
 use lib.Seq.{drop-cons}
 use lib.Dec.{ltb}
@@ -19,13 +18,13 @@ pub grows : (v : ℕ) (ds : List ℕ) → v ≤ goes_on v ds
 grows v [] = omega arith
 grows v (d ∷ ds) = omega (arith, grows (v * 10 + (d - 48)) ds)
 
-pub sum_past : (most v d : ℕ) (ds : List ℕ) → most < v * 10 + (d - 48) → None ≡ sum_from most v (d ∷ ds)
+-- at place i of s, a digit with which the number is too large
+pub sum_past : (most v i : ℕ) (s : List ℕ) → i < length s → most < v * 10 + (get_or s i 0 - 48) → sum_from most v (drop i s) ≡ None
 unfolding sum_from
-sum_past most v d ds p = either _ _ _ _ (in_false _ _ _ _ (lt-leb (goes_on (v * 10 + (d - 48)) ds) most (omega (arith, grows (v * 10 + (d - 48)) ds))) refl) refl
-
--- the reader at place i of s, where the answer is known to be x
-pub at_place : (most v i : ℕ) (s : List ℕ) {x : Option ℕ} → i < length s → sum_from most v (drop i s) ≡ x → sum_from most v (get_or s i 0 ∷ drop (i + 1) s) ≡ x
-at_place most v i s p e = rw (add-one, ← drop-cons s i 0 p) e
+sum_past most v i s p q =
+    let ds = drop (suc i) s in
+    let w = v * 10 + (get_or s i 0 - 48) in
+    rw (drop-cons s i 0 p) (sym (either _ _ _ _ (in_false _ _ _ _ (lt-leb (goes_on w ds) most (omega (arith, grows w ds))) refl) refl))
 
 -- the digits of n: the last one, and before it those of the tenth of n
 fuel : (j k n : ℕ) → n ≤ j → n ≤ k → digits j n ≡ digits k n

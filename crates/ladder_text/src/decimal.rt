@@ -4,7 +4,7 @@ ghost use Rattle.ladder_text.specs.Decimal.{decimal, sum_from, opens, number_of}
 ghost use Rattle.ladder_text.specs.Place.{Puts};
 
 // The number of the digits s, at most `most`.
-#[tactic(auto, unfolding(crate::specs::Decimal::sum_from, crate::specs::Pick::pick))]
+#[tactic(auto, using(crate::proofs::Digits::sum_past), unfolding(crate::specs::Decimal::sum_from, crate::specs::Pick::pick))]
 fn sum(s: &[u8], most: u32) -> Option<u32>
     ensures { result ≡ sum_from most 0 s.now }
 {
