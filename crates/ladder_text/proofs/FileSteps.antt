@@ -1,9 +1,8 @@
 -- The line at a place of a file, and the lines behind it.
-use Rattle.std.specs.Prelude.{Option, Some, is_some}
+use Rattle.std.specs.Prelude.{Some, is_some}
 use Prim.Native.Nat.{ℕ, ◌+◌, ◌≤◌, ◌<◌}
 use mathlib.Core.List.{List, [], ◌∷◌}
-use mathlib.Core.Bool.{true, false}
-use mathlib.Core.Path.{◌≡◌, refl, sym, ap, ◌∙◌}
+use mathlib.Core.Path.{◌≡◌, refl, sym, ap}
 use native.Mathlib.Numerals.{add-one}
 use native.Mathlib.Omega.{arith}
 use borrow.Author.Tests.{le-leb, lt-leb}
@@ -13,7 +12,6 @@ use Rattle.ladder_text.specs.Text.{LF, lines, fields, before, behind}
 use Rattle.ladder_text.specs.Words.{fate_of}
 use Rattle.ladder_text.specs.Rows.{run_of}
 use Rattle.ladder_text.specs.RunFile.{MOST-BYTES, misfit, refused, after_one, file_of}
-use Rattle.ladder_text.specs.declared.types.Fate.{Fate}
 use Rattle.ladder_text.proofs.Choose.{in_true, in_false}
 use Rattle.ladder_text.proofs.Cut.{drop_before, first_line, next_place}
 
@@ -28,23 +26,11 @@ pub lines_end : (s : List ℕ) (at : ℕ) → length s ≤ at → lines (drop at
 unfolding lines
 lines_end s at p = ap lines (drop_of_length-le s p)
 
--- the line l at place `at`, read as f, fits or not
-module _ (s : List ℕ) (at n : ℕ) {l : List ℕ} {f : Option Fate} {x : Option ℕ} (is : l ≡ before LF (drop at s)) (read : f ≡ fate_of l) (p : at < length s) (e : misfit n (lines (drop at s)) ≡ x) where
-  here : misfit n (before LF (drop at s) ∷ lines (drop (at + length (before LF (drop at s)) + 1) s)) ≡ x
-  here = rw (lines_at s at p) at e
-
-  read_here : fate_of (before LF (drop at s)) ≡ f
-  read_here = rw (← is) (sym read)
-
-  pub misfit_here : is_some f ≡ false → Some n ≡ x
-  unfolding pick
-  misfit_here q = rw (ap is_some read_here ∙ q) at here
-
-  pub misfit_next : is_some f ≡ true → misfit (n + 1) (lines (drop (at + (length l + 1)) s)) ≡ x
-  unfolding pick
-  misfit_next q =
-      let sums : at + (length l + 1) ≡ at + length l + 1 = omega arith in
-      rw (sums, is) (rw (ap is_some read_here ∙ q) at here)
+-- the line at place `at`, a fate or not
+pub misfit_at : (s : List ℕ) (at n : ℕ) → at < length s → misfit n (lines (drop at s)) ≡ pick (is_some (fate_of (before LF (drop at s)))) (misfit (n + 1) (lines (drop (at + (length (before LF (drop at s)) + 1)) s))) (Some n)
+misfit_at s at n p =
+    let sums : at + (length (before LF (drop at s)) + 1) ≡ at + length (before LF (drop at s)) + 1 = omega arith in
+    rw (lines_at s at p, sums) refl
 
 -- the whole file
 pub too_long : (b : List ℕ) → MOST-BYTES < length b → file_of b ≡ refused 0
