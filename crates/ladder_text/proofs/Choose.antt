@@ -1,10 +1,10 @@
--- How a value is shown to be the one that `pick` chooses: rules for `search`, which finds the tests among what a place in the code knows.
+-- How a value is shown to be the one that `pick` chooses.
 use mathlib.Core.Bool.{Bool, true, false, ◌&&◌, false≢true}
 use mathlib.Core.Path.{◌≡◌, refl, sym, ◌∙◌}
 use mathlib.Core.List.{List, [], ◌∷◌}
 use Prim.Native.Nat.{ℕ}
 use lib.Dec.{eqb}
-use borrow.Author.Tests.{lt-ltb, le-ltb, le-leb, lt-leb, eq-eqb, ne_eqb, not-true, not-false}
+use borrow.Author.Tests.{eq-eqb}
 use Rattle.ladder_text.specs.Pick.{pick, and_all, all}
 
 pub in_true : {A : Type 0} (t : Bool) (x a b : A) → t ≡ true → x ≡ a → x ≡ pick t a b
@@ -23,24 +23,7 @@ unfolding pick
 either true x a b p q = p
 either false x a b p q = q
 
--- through a callee's result r that equals t
-pub via_true : {r t : Bool} → r ≡ t → r ≡ true → t ≡ true
-via_true p q = sym p ∙ q
-
-pub via_false : {r t : Bool} → r ≡ t → r ≡ false → t ≡ false
-via_false p q = sym p ∙ q
-
--- a callee's test r decides
-pub is_it : {A : Type 0} {r t : Bool} {x a : A} (b : A) → r ≡ t → r ≡ true → x ≡ a → x ≡ pick t a b
-is_it b p q e = in_true _ _ _ _ (sym p ∙ q) e
-
-pub not_it : {A : Type 0} {r t : Bool} {x b : A} (a : A) → r ≡ t → r ≡ false → x ≡ b → x ≡ pick t a b
-not_it a p q e = in_false _ _ _ _ (sym p ∙ q) e
-
 -- a callee's number r, and a test for n
-pub other_number : {A : Type 0} {r k : ℕ} (n : ℕ) (a x : A) → r ≡ k → (r ≡ n → ⊥) → x ≡ pick (eqb k n) a x
-other_number n a x p q = in_false _ _ _ _ (ne_eqb _ n (λ e. q (p ∙ e))) refl
-
 pub this_number : {A : Type 0} {r k : ℕ} (n : ℕ) {x a : A} (b : A) → r ≡ k → r ≡ n → x ≡ a → x ≡ pick (eqb k n) a b
 this_number n b p q e = in_true _ _ _ _ (eq-eqb _ n (sym p ∙ q)) e
 
@@ -56,10 +39,6 @@ pub and_first : (a b : Bool) → a ≡ false → (a && b) ≡ false
 and_first true b p = absurd (false≢true (sym p))
 and_first false b p = refl
 
-pub and_second : (a b : Bool) → b ≡ false → (a && b) ≡ false
-and_second true b p = p
-and_second false b p = refl
-
 -- all tests of a list hold: each does
 abbrev pub EachHolds : List Bool → Type 0
 EachHolds [] = Unit {0}
@@ -74,5 +53,3 @@ from before (t ∷ ts) e =
 
 pub each : (ts : List Bool) → all ts ≡ true → EachHolds ts
 each ts e = (from true ts e).1
-
-pub ruleset choose = (refl, in_true, in_false, via_true, via_false, lt-ltb, le-ltb, le-leb, lt-leb, eq-eqb, ne_eqb, not-true, not-false)

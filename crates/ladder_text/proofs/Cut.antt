@@ -1,14 +1,16 @@
 -- Bytes cut at a byte c: the first part, what is behind it, and where they stand.
+use Rattle.std.specs.Prelude.{position, unwrap_or, Option, None, Some}
+use Rattle.std.specs.List.{position_or_len, count_by}
+use Rattle.std.proofs.lemmas.List.Recursion.{is_count_by}
 use Prim.Native.Nat.{ℕ, zero, suc, ◌+◌, ◌-◌, min, ◌≤◌, ◌<◌}
 use mathlib.Core.List.{List, [], ◌∷◌}
-use mathlib.Core.Bool.{Bool, true, false}
+use mathlib.Core.Bool.{Bool, true, false, cond, not}
 use mathlib.Core.Path.{◌≡◌, refl, sym, ap, ◌∙◌}
-use native.Mathlib.Numerals.{add-one}
 use native.Mathlib.Omega.{arith}
 use lib.ListN.{length, get_or, take, drop, drop_of_length-le, length-take, length-drop}
-use borrow.Author.Tests.{eq-eqb, ne_eqb}
-use lib.Seq.{drop-cons, drop-drop, drop-length, take-nil}
-use lib.Dec.{eqb}
+use borrow.Author.Tests.{leb-true, leb-false, ltb-false}
+use lib.Seq.{drop-drop, take-length}
+use lib.Dec.{eqb, leb, ltb}
 use Rattle.ladder_text.specs.Pick.{pick}
 use Rattle.ladder_text.specs.Text.{LF, TAB, glue, lines, fields, before, behind}
 use Rattle.ladder_text.specs.Lent.{field_start}
@@ -35,30 +37,43 @@ drop_before c (x ∷ xs) = go (eqb x c) (drop_before c xs)
 pub short_before : (c : ℕ) (b : List ℕ) → length (before c b) ≤ length b
 short_before c b = omega (arith, ap length (take_before c b), length-take (length (before c b)) b)
 
--- the search for the first c from i on: at its end, at a c, and past another byte
-pub found_end : (c i : ℕ) (s : List ℕ) → length s ≤ i → i + length (before c (drop i s)) ≡ i
-found_end c i s p = rw (drop_of_length-le s p) (omega arith)
+-- the index of the first c is how many bytes stand before it
+pub first_before : (c : ℕ) (b : List ℕ) → position_or_len (λ x. eqb x c) b ≡ length (before c b)
+unfolding pick
+first_before c [] = refl
+first_before c (x ∷ xs) = go (eqb x c) (first_before c xs)
+  where
+    go : (t : Bool) → position_or_len (λ x. eqb x c) xs ≡ length (before c xs) → cond (not t) (1 + position_or_len (λ x. eqb x c) xs) 0 ≡ length (pick t [] (x ∷ before c xs))
+    go true e = refl
+    go false e = omega arith
 
-module _ (c i : ℕ) (s : List ℕ) (p : i < length s) where
-  pub found_here : get_or s i 0 ≡ c → i + length (before c (drop i s)) ≡ i
-  unfolding pick
-  found_here e = rw (drop-cons s i 0 p, eq-eqb (get_or s i 0) c e) (omega arith)
+pub end_of : (c : ℕ) (b : List ℕ) → unwrap_or (position (λ x. eqb x c) b) (length b) ≡ length (before c b)
+end_of c b = go (ltb (position_or_len (λ x. eqb x c) b) (length b)) refl
+  where
+    go : (t : Bool) → ltb (position_or_len (λ x. eqb x c) b) (length b) ≡ t → unwrap_or (cond t (Some (position_or_len (λ x. eqb x c) b)) None) (length b) ≡ length (before c b)
+    go true e = first_before c b
+    go false e = omega (arith, ltb-false (position_or_len (λ x. eqb x c) b) (length b) e, first_before c b, short_before c b)
 
-  pub found_later : (get_or s i 0 ≡ c → ⊥) → i + length (before c (drop i s)) ≡ (i + 1) + length (before c (drop (i + 1) s))
-  unfolding pick
-  found_later e = rw (drop-cons s i 0 p, ne_eqb (get_or s i 0) c e, add-one i) (omega arith)
+-- s from `at` on, or from its end where `at` is beyond
+pub rest_is : (at m : ℕ) (s : List ℕ) → m ≡ min at (length s) → take (length s - m) (drop m s) ≡ drop at s
+rest_is at m s e =
+    let n : length s - m ≡ length (drop m s) = omega (arith, length-drop m s) in
+    rw (n, take-length) (go (leb at (length s)) refl)
+  where
+    go : (t : Bool) → leb at (length s) ≡ t → drop m s ≡ drop at s
+    go true p = let same : m ≡ at = omega (arith, leb-true at (length s) p) in ap (λ (k : ℕ). drop k s) same
+    go false p = drop_of_length-le s (omega (arith, leb-false at (length s) p)) ∙ sym (drop_of_length-le s (omega (arith, leb-false at (length s) p)))
 
--- the part that starts at `at`: none past the end, else as many bytes as the search for c passed
-pub none_beyond : (c at : ℕ) (s : List ℕ) → length s ≤ at → [] ≡ before c (drop at s)
-none_beyond c at s p = ap (before c) (sym (drop_of_length-le s p))
+-- the part of it before c, where the search for c answered r, and so the part ends at n
+module _ (c at m n : ℕ) (s : List ℕ) {r : Option ℕ} (e : m ≡ min at (length s)) (found : r ≡ position (λ x. eqb x c) (take (length s - m) (drop m s))) (is : n ≡ unwrap_or r (length (take (length s - m) (drop m s)))) where
+  end_is : n ≡ length (before c (take (length s - m) (drop m s)))
+  end_is = is ∙ (rw found (end_of c (take (length s - m) (drop m s))))
 
-pub part_none : (c at : ℕ) (s : List ℕ) → length s ≤ at → take (length s - length s) (drop (length s) s) ≡ before c (drop at s)
-part_none c at s p = rw (drop-length s, take-nil) (none_beyond c at s p)
+  pub part_within : n ≡ length (take n (take (length s - m) (drop m s)))
+  part_within = omega (arith, end_is, length-take n (take (length s - m) (drop m s)), short_before c (take (length s - m) (drop m s)))
 
-pub part_found : (c at r : ℕ) (s : List ℕ) → r ≡ at + length (before c (drop at s)) → take (r - at) (drop at s) ≡ before c (drop at s)
-part_found c at r s e =
-    let n : r - at ≡ length (before c (drop at s)) = omega arith in
-    rw n (take_before c (drop at s))
+  pub part_is : take n (take (length s - m) (drop m s)) ≡ before c (drop at s)
+  part_is = rw (end_is, rest_is at m s e) (take_before c (drop at s))
 
 -- the bytes from `at` on are no fewer than the part q there
 pub within : (c at : ℕ) (s q : List ℕ) → at ≤ length s → q ≡ before c (drop at s) → at + length q ≤ length s
@@ -87,7 +102,7 @@ first_line x (y ∷ ys) = go (eqb x LF) (first_line y ys)
 
 -- fields: there is a first one
 opened : (x : ℕ) (f : List (List ℕ)) (g : List ℕ) (r : List (List ℕ)) → f ≡ g ∷ r → glue x f ≡ (x ∷ g) ∷ drop 1 (glue x f)
-opened x [] g r e = let z : ◌≡◌ {A = ℕ} 0 1 = cc in absurd (omega arith)
+opened x [] g r e = absurd cc
 opened x (h ∷ s) g r e =
     let same : h ≡ g = cc in
     ap (λ (l : List ℕ). (x ∷ l) ∷ s) same
@@ -141,21 +156,23 @@ start_next (x ∷ xs) m = go (eqb x TAB) (start_next xs m)
     go true e = omega (arith, start_within xs m)
     go false e = omega arith
 
--- the search for field i: from `at`, where the part q stands, `left` tabs are to pass
-module _ (l q : List ℕ) (at left : ℕ) {k : ℕ} (is : q ≡ before TAB (drop at l)) (e : at + field_start (drop at l) left ≡ k) (p : 0 < left) where
+-- the search for field i: from `at`, `left` tabs are to pass, and m behind the next
+module _ (l : List ℕ) (at left m : ℕ) (p : m + 1 ≡ left) where
   abbrev past : ℕ
-  past = at + length q + 1
+  past = at + (length (before TAB (drop at l)) + 1)
 
-  jump : at + min (length (drop at l)) (length q + 1 + field_start (drop past l) (left - 1)) ≡ k
+  jump : at + field_start (drop at l) left ≡ at + min (length (drop at l)) (length (before TAB (drop at l)) + 1 + field_start (drop past l) m)
   jump =
-      let one : suc (left - 1) ≡ left = omega arith in
-      rw (is, next_place TAB at l, ← start_next (drop at l) (left - 1), one) e
+      let one : left ≡ suc m = omega arith in
+      let sums : past ≡ at + length (before TAB (drop at l)) + 1 = omega arith in
+      rw (one, sums, next_place TAB at l, start_next (drop at l) m) refl
 
-  pub passed : past ≤ length l → past + field_start (drop past l) (left - 1) ≡ k
-  passed room = omega (arith, jump, length-drop at l, start_within (drop past l) (left - 1), length-drop past l)
+  pub passed : past ≤ length l → at + field_start (drop at l) left ≡ past + field_start (drop past l) m
+  passed room = omega (arith, jump, length-drop at l, start_within (drop past l) m, length-drop past l)
 
-  pub none_left : at ≤ length l → length l < past → length l ≡ k
-  none_left inside out = omega (arith, jump, length-drop at l)
+-- no tab is left to pass
+pub none_left : (l : List ℕ) (at left : ℕ) → 0 < left → at ≤ length l → length l < at + (length (before TAB (drop at l)) + 1) → at + field_start (drop at l) left ≡ length l
+none_left l at left p inside out = omega (arith, jump l at left (left - 1) (omega arith), length-drop at l)
 
 pub arrived : (l : List ℕ) (at left : ℕ) {k : ℕ} → left ≤ 0 → at + field_start (drop at l) left ≡ k → at ≡ k
 arrived l at left p e =
@@ -172,16 +189,25 @@ unfolding pick fields
 count_other x xs e = rw e (go (fields xs) (first_field xs))
   where
     go : (f : List (List ℕ)) {g : List ℕ} {r : List (List ℕ)} → f ≡ g ∷ r → length (glue x f) ≡ length f
-    go [] e = let z : ◌≡◌ {A = ℕ} 0 1 = cc in absurd (omega arith)
+    go [] e = absurd cc
     go (h ∷ s) e = refl
 
-module _ (l : List ℕ) (i : ℕ) (p : i < length l) where
-  pub at_tab : get_or l i 0 ≡ TAB → length (fields (drop i l)) ≡ length (fields (drop (i + 1) l)) + 1
-  at_tab e = rw (add-one i, drop-cons l i 0 p) (count_tab (get_or l i 0) (drop (suc i) l) (eq-eqb (get_or l i 0) TAB e) ∙ sym (add-one _))
+-- one more than the tabs
+tabs : List ℕ → ℕ
+tabs l = length (fields l) - 1
 
-  pub at_other : (get_or l i 0 ≡ TAB → ⊥) → length (fields (drop i l)) ≡ length (fields (drop (i + 1) l))
-  at_other e = rw (add-one i, drop-cons l i 0 p) (count_other (get_or l i 0) (drop (suc i) l) (ne_eqb (get_or l i 0) TAB e))
+tabs_none : tabs [] ≡ 0
+unfolding tabs fields
+tabs_none = refl
 
-pub at_last : (l : List ℕ) (i : ℕ) → length l ≤ i → length (fields (drop i l)) ≡ 1
-unfolding fields
-at_last l i p = ap (λ (b : List ℕ). length (fields b)) (drop_of_length-le l p)
+tabs_step : (x : ℕ) (xs : List ℕ) → tabs (x ∷ xs) ≡ cond (eqb x TAB) (1 + tabs xs) (tabs xs)
+unfolding tabs
+tabs_step x xs = go (eqb x TAB) refl (ap length (first_field xs))
+  where
+    go : (t : Bool) → eqb x TAB ≡ t → length (fields xs) ≡ suc (length (drop 1 (fields xs))) → length (fields (x ∷ xs)) - 1 ≡ cond t (1 + (length (fields xs) - 1)) (length (fields xs) - 1)
+    go true e p = omega (arith, count_tab x xs e)
+    go false e p = omega (arith, count_other x xs e)
+
+pub count_fields : (l : List ℕ) → count_by (λ x. eqb x TAB) l + 1 ≡ length (fields l)
+unfolding tabs
+count_fields l = omega (arith, is_count_by tabs (λ x. eqb x TAB) tabs_none tabs_step l, ap length (first_field l))

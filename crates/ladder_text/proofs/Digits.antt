@@ -1,52 +1,30 @@
 -- Decimal numbers: the steps of the reader, and the two laws, printed and read back, read and printed again.
+use Rattle.std.specs.Prelude.{None}
 use Prim.Native.Nat.{ℕ, zero, suc, ◌+◌, ◌-◌, ◌*◌, ◌/◌, ◌%◌, ◌≤◌, ◌<◌}
 use mathlib.Core.List.{List, [], ◌∷◌, ◌++◌}
 use mathlib.Core.Bool.{Bool, true, false}
 use mathlib.Core.Path.{◌≡◌, refl, sym, ap}
 use native.Mathlib.Omega.{arith}
-use native.Mathlib.Numerals.{add-one}
-use lib.ListN.{length, get_or, drop, drop_of_length-le}
+use lib.ListN.{length, get_or, drop}
 use lib.Seq.{drop-cons}
-use lib.Dec.{leb, ltb}
+use lib.Dec.{ltb}
 use borrow.Author.Tests.{le-leb, lt-leb, lt-ltb, le-ltb, ltb-true, ltb-false}
 use Rattle.ladder_text.specs.Pick.{pick}
 use Rattle.ladder_text.specs.Decimal.{digits, decimal, is_digit, all_digits, goes_on, value, sum_from}
-use Rattle.ladder_text.specs.declared.types.Number.{Number}
-use Rattle.ladder_text.specs.declared.types.Number.TheVariants.{Value, Misfit}
-use Rattle.ladder_text.proofs.Choose.{in_true, in_false, either, and_true, and_both, and_first, and_second}
+use Rattle.ladder_text.proofs.Choose.{in_true, in_false, either, and_true, and_both}
 
 -- one step of the reader: the byte d, then ds
 pub grows : (v : ℕ) (ds : List ℕ) → v ≤ goes_on v ds
 grows v [] = omega arith
 grows v (d ∷ ds) = omega (arith, grows (v * 10 + (d - 48)) ds)
 
-pub sum_end : (most v : ℕ) → v ≤ most → Value v ≡ sum_from most v []
+-- at place i of s, a digit with which the number is too large
+pub sum_past : (most v i : ℕ) (s : List ℕ) → i < length s → most < v * 10 + (get_or s i 0 - 48) → sum_from most v (drop i s) ≡ None
 unfolding sum_from
-sum_end most v p = in_true _ _ _ _ refl (in_true _ _ _ _ (le-leb v most p) refl)
-
-module _ (most v d : ℕ) (ds : List ℕ) where
-  pub sum_low : d < 48 → Misfit ≡ sum_from most v (d ∷ ds)
-  unfolding sum_from
-  sum_low p = in_false _ _ _ _ (and_first _ (all_digits ds) (and_first _ (leb d 57) (lt-leb 48 d p))) refl
-
-  pub sum_high : 57 < d → Misfit ≡ sum_from most v (d ∷ ds)
-  unfolding sum_from
-  sum_high p = in_false _ _ _ _ (and_first _ (all_digits ds) (and_second (leb 48 d) _ (lt-leb d 57 p))) refl
-
-  pub sum_past : most < v * 10 + (d - 48) → Misfit ≡ sum_from most v (d ∷ ds)
-  unfolding sum_from
-  sum_past p = either _ _ _ _ (in_false _ _ _ _ (lt-leb (goes_on (v * 10 + (d - 48)) ds) most (omega (arith, grows (v * 10 + (d - 48)) ds))) refl) refl
-
-  pub sum_more : 48 ≤ d → d ≤ 57 → sum_from most (v * 10 + (d - 48)) ds ≡ sum_from most v (d ∷ ds)
-  unfolding sum_from
-  sum_more p q = simp (le-leb 48 d p, le-leb d 57 q)
-
--- the reader at place i of s, where the answer is known to be x
-pub at_place : (most v i : ℕ) (s : List ℕ) {x : Number} → i < length s → sum_from most v (drop i s) ≡ x → sum_from most v (get_or s i 0 ∷ drop (i + 1) s) ≡ x
-at_place most v i s p e = rw (add-one, ← drop-cons s i 0 p) e
-
-pub at_end : (most v i : ℕ) (s : List ℕ) {x : Number} → length s ≤ i → sum_from most v (drop i s) ≡ x → sum_from most v [] ≡ x
-at_end most v i s p e = rw (drop_of_length-le s p) at e
+sum_past most v i s p q =
+    let ds = drop (suc i) s in
+    let w = v * 10 + (get_or s i 0 - 48) in
+    rw (drop-cons s i 0 p) (sym (either _ _ _ _ (in_false _ _ _ _ (lt-leb (goes_on w ds) most (omega (arith, grows w ds))) refl) refl))
 
 -- the digits of n: the last one, and before it those of the tenth of n
 fuel : (j k n : ℕ) → n ≤ j → n ≤ k → digits j n ≡ digits k n

@@ -1,20 +1,16 @@
 -- A line of a known number of fields, and four numbers side by side in it.
+use Rattle.std.specs.Prelude.{Option, None, Some}
 use Prim.Native.Nat.{ℕ, zero, suc, ◌+◌, ◌≤◌}
 use mathlib.Core.List.{List, [], ◌∷◌}
 use mathlib.Core.Bool.{true}
 use mathlib.Core.Path.{◌≡◌, refl, sym, ap, ◌∙◌}
-use native.Mathlib.Omega.{arith}
 use lib.ListN.{length, get_or}
 use lib.Dec.{eqb}
 use borrow.Author.Tests.{eqb-true}
 use Rattle.ladder_text.specs.Text.{fields, joined}
 use Rattle.ladder_text.specs.Decimal.{decimal}
 use Rattle.ladder_text.specs.Words.{MOST}
-use Rattle.ladder_text.specs.Rows.{field_at, number_at, quad_from, quad_at}
-use Rattle.ladder_text.specs.declared.types.Number.{Number}
-use Rattle.ladder_text.specs.declared.types.Number.TheVariants.{Value, Misfit}
-use Rattle.ladder_text.specs.declared.types.Quad.{Quad}
-use Rattle.ladder_text.specs.declared.types.ReadQuad.TheVariants as quad
+use Rattle.ladder_text.specs.Rows.{field_at, number_at, given, Quad, quad_at}
 use Rattle.ladder_text.proofs.Numbers.{numbers}
 use Rattle.ladder_text.proofs.Joined.{fields_print_again}
 
@@ -50,17 +46,17 @@ pub record QuadFits (q : Quad) : Type 0 where
   pub c : q.c ≤ MOST
   pub d : q.d ≤ MOST
 
-pub quad_back : (l : List ℕ) (i : ℕ) (q : Quad) → QuadFits q → Side l i q → quad_at l i ≡ quad.Are q
+pub quad_back : (l : List ℕ) (i : ℕ) (q : Quad) → QuadFits q → Side l i q → quad_at l i ≡ Some q
 unfolding quad_at
 quad_back l i q f s =
     rw (s.a, s.b, s.c, s.d, (numbers MOST).back q.a f.a, (numbers MOST).back q.b f.b, (numbers MOST).back q.c f.c, (numbers MOST).back q.d f.d) refl
 
-pub quad_again : (l : List ℕ) (i : ℕ) (q : Quad) → quad_at l i ≡ quad.Are q → QuadFits q × Side l i q
+pub quad_again : (l : List ℕ) (i : ℕ) (q : Quad) → quad_at l i ≡ Some q → QuadFits q × Side l i q
 unfolding quad_at
 quad_again l i q e = go (number_at l i) (number_at l (i + 1)) (number_at l (i + 2)) (number_at l (i + 3)) refl refl refl refl e
   where
-    go : (a b c d : Number) → number_at l i ≡ a → number_at l (i + 1) ≡ b → number_at l (i + 2) ≡ c → number_at l (i + 3) ≡ d → quad_from a b c d ≡ quad.Are q → QuadFits q × Side l i q
-    go (Value a) (Value b) (Value c) (Value d) p r s t e =
+    go : (a b c d : Option ℕ) → number_at l i ≡ a → number_at l (i + 1) ≡ b → number_at l (i + 2) ≡ c → number_at l (i + 3) ≡ d → (given a λ a'. given b λ b'. given c λ c'. given d λ d'. Some (record { a = a'; b = b'; c = c'; d = d' })) ≡ Some q → QuadFits q × Side l i q
+    go (Some a) (Some b) (Some c) (Some d) p r s t e =
         let m : Quad = record { a = a; b = b; c = c; d = d } in
         let same : m ≡ q = cc in
         let w = (numbers MOST).again (field_at l i) a p in
@@ -69,7 +65,7 @@ quad_again l i q e = go (number_at l i) (number_at l (i + 1)) (number_at l (i + 
         let z = (numbers MOST).again (field_at l (i + 3)) d t in
         let r : QuadFits m × Side l i m = (record { a = w.0; b = x.0; c = y.0; d = z.0 }, record { a = sym w.1; b = sym x.1; c = sym y.1; d = sym z.1 }) in
         rw same at r
-    go Misfit b c d p r s t e = let z : ◌≡◌ {A = ℕ} 0 1 = cc in absurd (omega arith)
-    go (Value a) Misfit c d p r s t e = let z : ◌≡◌ {A = ℕ} 0 1 = cc in absurd (omega arith)
-    go (Value a) (Value b) Misfit d p r s t e = let z : ◌≡◌ {A = ℕ} 0 1 = cc in absurd (omega arith)
-    go (Value a) (Value b) (Value c) Misfit p r s t e = let z : ◌≡◌ {A = ℕ} 0 1 = cc in absurd (omega arith)
+    go None b c d p r s t e = absurd cc
+    go (Some a) None c d p r s t e = absurd cc
+    go (Some a) (Some b) None d p r s t e = absurd cc
+    go (Some a) (Some b) (Some c) None p r s t e = absurd cc

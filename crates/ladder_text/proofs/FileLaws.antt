@@ -1,5 +1,6 @@
 -- The laws of run files.
-use Prim.Native.Nat.{ℕ, ◌+◌, ◌*◌, ◌≤◌, ◌<◌}
+use Rattle.std.specs.Prelude.{Option, None, Some, is_some}
+use Prim.Native.Nat.{ℕ, ◌+◌, ◌*◌, ◌≤◌}
 use mathlib.Core.List.{List, [], ◌∷◌, map}
 use mathlib.Core.Bool.{Bool, true, false}
 use mathlib.Core.Path.{◌≡◌, refl, sym, ap, ◌∙◌}
@@ -8,22 +9,18 @@ use native.Mathlib.Omega.{arith}
 use lib.ListN.{length, drop, length-append}
 use lib.Seq.{drop-append-add}
 use lib.Dec.{leb, ltb, eqb}
-use borrow.Author.Tests.{le-leb, ltb-true, ltb-false, eqb-true}
+use borrow.Author.Tests.{le-leb, ltb-true, ltb-false}
 use Rattle.ladder_text.specs.Pick.{pick}
 use Rattle.ladder_text.specs.Text.{LF, lines, unlines, before, behind, free, all_free, finished}
 use Rattle.ladder_text.specs.Decimal.{decimal}
 use Rattle.ladder_text.specs.Words.{direction_word, fate_word, fate_of}
 use Rattle.ladder_text.specs.Rows.{within_limits, run_text, run_of}
-use Rattle.ladder_text.specs.RunFile.{MOST-BYTES, file_text, is_fate, misfit, after_one, from_lines, file_of, fate_or, fates_of, fates_at, next_fate}
+use Rattle.ladder_text.specs.RunFile.{MOST-BYTES, file_text, misfit, further_lines, taken, refused, after_one, from_lines, file_of, fate_or, fates_of, fates_at, next_fate}
 use Rattle.ladder_text.specs.Laws.{FilesReadBack, FilesPrintAgain, FewFates, InTurn, FatesInTurn}
 use Rattle.ladder_text.specs.declared.types.Fate.{Fate}
 use Rattle.ladder_text.specs.declared.types.Fate.TheVariants.{Ok}
-use Rattle.ladder_text.specs.declared.types.ReadFate.{ReadFate}
-use Rattle.ladder_text.specs.declared.types.ReadFate.TheVariants as fate
 use Rattle.ladder_text.specs.declared.types.Run.{Run}
-use Rattle.ladder_text.specs.declared.types.ReadRun.{ReadRun}
-use Rattle.ladder_text.specs.declared.types.ReadRun.TheVariants as run
-use Rattle.ladder_text.specs.declared.types.RunFile.TheVariants as file
+use Rattle.ladder_text.specs.declared.types.RunFile.{RunFile}
 use Rattle.ladder_text.specs.declared.types.NextFate.{NextFate}
 use Rattle.ladder_text.proofs.Choose.{in_true, and_both}
 use Rattle.ladder_text.proofs.Named.{free_decimal}
@@ -45,7 +42,7 @@ free_fates [] = refl
 free_fates (f ∷ fs) = and_both _ _ (free_fate f).1 (free_fates fs)
 
 -- printed, then read
-no_misfit : (n : ℕ) (fs : List Fate) → misfit n (map fate_word fs) ≡ 0
+no_misfit : (n : ℕ) (fs : List Fate) → misfit n (map fate_word fs) ≡ None
 unfolding pick
 no_misfit n [] = refl
 no_misfit n (f ∷ fs) = rw (fates.back f tt) (no_misfit (n + 1) fs)
@@ -62,43 +59,56 @@ files_read_back r fs w room =
     let cut : lines (file_text r fs) ≡ t ∷ map fate_word fs = lines_read_back (t ∷ map fate_word fs) (and_both _ _ (free_run r) (free_fates fs)) in
     let after : drop (length t + 1) (file_text r fs) ≡ rest = drop-append-add t (LF ∷ rest) 1 in
     let further : lines rest ≡ map fate_word fs = lines_read_back (map fate_word fs) (free_fates fs) in
-    let taken : file.Run r (length t + 1) ≡ from_lines (t ∷ map fate_word fs) = rw (runs.back r w, no_misfit 2 fs) (in_true _ _ _ _ refl refl) in
-    (sym (in_true _ _ _ _ (le-leb (length (file_text r fs)) MOST-BYTES room) (rw cut taken)), rw (after, further) (fates_back fs))
+    let whole : taken r (length t + 1) ≡ from_lines (t ∷ map fate_word fs) = rw (runs.back r w, no_misfit 2 fs) refl in
+    (sym (in_true _ _ _ _ (le-leb (length (file_text r fs)) MOST-BYTES room) (rw cut whole)), rw (after, further) (fates_back fs))
 
 -- read, then printed
-fates_again : (n : ℕ) (ls : List (List ℕ)) → 0 < n → misfit n ls ≡ 0 → map fate_word (fates_of ls) ≡ ls
+fates_again : (n : ℕ) (ls : List (List ℕ)) → misfit n ls ≡ None → map fate_word (fates_of ls) ≡ ls
 unfolding pick
-fates_again n [] p e = refl
-fates_again n (l ∷ ls) p e = go (fate_of l) refl e (fates_again (n + 1) ls (omega arith))
+fates_again n [] e = refl
+fates_again n (l ∷ ls) e = go (fate_of l) refl e (fates_again (n + 1) ls)
   where
-    go : (f : ReadFate) → fate_of l ≡ f → pick (is_fate f) (misfit (n + 1) ls) n ≡ 0 → (misfit (n + 1) ls ≡ 0 → map fate_word (fates_of ls) ≡ ls) → fate_word (fate_or (fate_of l)) ∷ map fate_word (fates_of ls) ≡ l ∷ ls
-    go (fate.Is f) q e more = rw (q, (fates.again l f q).1, more e) refl
-    go fate.Misfit q e more = absurd (omega arith)
+    go : (f : Option Fate) → fate_of l ≡ f → pick (is_some f) (misfit (n + 1) ls) (Some n) ≡ None → (misfit (n + 1) ls ≡ None → map fate_word (fates_of ls) ≡ ls) → fate_word (fate_or (fate_of l)) ∷ map fate_word (fates_of ls) ≡ l ∷ ls
+    go (Some f) q e more = rw (q, (fates.again l f q).1, more e) refl
+    go None q e more = absurd cc
+
+abbrev file_is : Run → ℕ → RunFile
+file_is r at = record { run = r; fates = at }
+
+-- a run file that was taken has one line one, and one place
+taken_file : (s r : Run) (at to : ℕ) → taken s at ≡ taken r to → file_is s at ≡ file_is r to
+taken_file s r at to e = cc
+
+taken_run : (s r : Run) (at to : ℕ) → taken s at ≡ taken r to → s ≡ r
+taken_run s r at to e = ap (λ (x : RunFile). x.run) (taken_file s r at to e)
+
+taken_place : (s r : Run) (at to : ℕ) → taken s at ≡ taken r to → at ≡ to
+taken_place s r at to e = ap (λ (x : RunFile). x.fates) (taken_file s r at to e)
 
 module _ (b l : List ℕ) (ls : List (List ℕ)) (r : Run) (at : ℕ) (cut : lines b ≡ l ∷ ls) (rest : ls ≡ lines (drop (length l + 1) b)) where
-  again_one : (s : Run) (u : Bool) → eqb (misfit 2 ls) 0 ≡ u → run_of l ≡ run.Is s → pick u (file.Run s (length l + 1)) (file.Refused (misfit 2 ls)) ≡ file.Run r at → (within_limits r ≡ true) × (file_text r (fates_at b at) ≡ finished b)
+  again_one : (s : Run) (m : Option ℕ) → misfit 2 ls ≡ m → run_of l ≡ Some s → further_lines s (length l + 1) m ≡ taken r at → (within_limits r ≡ true) × (file_text r (fates_at b at) ≡ finished b)
   unfolding pick
-  again_one s true p q e =
-      let same : s ≡ r = cc in
-      let place : length l + 1 ≡ at = cc in
-      let a : (within_limits r ≡ true) × (run_text r ≡ l) = runs.again l r (q ∙ ap run.Is same) in
+  again_one s None p q e =
+      let same : s ≡ r = taken_run s r (length l + 1) at e in
+      let place : length l + 1 ≡ at = taken_place s r (length l + 1) at e in
+      let a : (within_limits r ≡ true) × (run_text r ≡ l) = runs.again l r (q ∙ ap Some same) in
       let more : map fate_word (fates_at b at) ≡ ls =
-      ap (λ (k : ℕ). map fate_word (fates_at b k)) (sym place) ∙ ap (λ (x : List (List ℕ)). map fate_word (fates_of x)) (sym rest) ∙ fates_again 2 ls (omega arith) (eqb-true (misfit 2 ls) 0 p) in
+      ap (λ (k : ℕ). map fate_word (fates_at b k)) (sym place) ∙ ap (λ (x : List (List ℕ)). map fate_word (fates_of x)) (sym rest) ∙ fates_again 2 ls p in
       (a.0, ap (λ (x : List ℕ). unlines (x ∷ map fate_word (fates_at b at))) a.1 ∙ ap (λ (x : List (List ℕ)). unlines (l ∷ x)) more ∙ ap unlines (sym cut) ∙ lines_print_again b)
-  again_one s false p q e = let z : ◌≡◌ {A = ℕ} 0 1 = cc in absurd (omega arith)
+  again_one s (Some n) p q e = absurd cc
 
-  again_from : file_of b ≡ file.Run r at → (within_limits r ≡ true) × (file_text r (fates_at b at) ≡ finished b)
+  again_from : file_of b ≡ taken r at → (within_limits r ≡ true) × (file_text r (fates_at b at) ≡ finished b)
   unfolding file_of pick
   again_from e = go (leb (length b) MOST-BYTES) (run_of l) refl (rw cut at e)
     where
-      go : (t : Bool) (m : ReadRun) → run_of l ≡ m → pick t (after_one m (length l + 1) ls) (file.Refused 0) ≡ file.Run r at → (within_limits r ≡ true) × (file_text r (fates_at b at) ≡ finished b)
-      go true (run.Is s) q e = again_one s (eqb (misfit 2 ls) 0) refl q e
-      go true run.Misfit q e = let z : ◌≡◌ {A = ℕ} 0 1 = cc in absurd (omega arith)
-      go false m q e = let z : ◌≡◌ {A = ℕ} 0 1 = cc in absurd (omega arith)
+      go : (t : Bool) (m : Option Run) → run_of l ≡ m → pick t (after_one m (length l + 1) ls) (refused 0) ≡ taken r at → (within_limits r ≡ true) × (file_text r (fates_at b at) ≡ finished b)
+      go true (Some s) q e = again_one s (misfit 2 ls) refl q e
+      go true None q e = absurd cc
+      go false m q e = absurd cc
 
 pub files_print_again : FilesPrintAgain
 unfolding file_of lines pick
-files_print_again [] r at e = let z : ◌≡◌ {A = ℕ} 0 1 = cc in absurd (omega arith)
+files_print_again [] r at e = absurd cc
 files_print_again (x ∷ xs) r at e =
     let b = x ∷ xs in
     let n = length (before LF b) in

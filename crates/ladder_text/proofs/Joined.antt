@@ -3,7 +3,6 @@ use Prim.Native.Nat.{ℕ}
 use mathlib.Core.List.{List, [], ◌∷◌, ◌++◌, append_assoc, append-nil}
 use mathlib.Core.Bool.{Bool, true, false, not}
 use mathlib.Core.Path.{◌≡◌, refl, ap, ◌∙◌}
-use native.Mathlib.Omega.{arith}
 use lib.Dec.{eqb}
 use borrow.Author.Tests.{eq-eqb, eqb-true, not-true}
 use Rattle.ladder_text.specs.Pick.{pick}
@@ -65,7 +64,7 @@ glued x [] = refl
 glued x (f ∷ fs) = refl
 
 more : (fs : List (List ℕ)) {g : List ℕ} {r : List (List ℕ)} → fs ≡ g ∷ r → tabbed fs ≡ TAB ∷ joined fs
-more [] e = let z : ◌≡◌ {A = ℕ} 0 1 = cc in absurd (omega arith)
+more [] e = absurd cc
 more (f ∷ fs) e = refl
 
 pub fields_print_again : FieldsPrintAgain
@@ -78,7 +77,7 @@ fields_print_again (x ∷ xs) = go (eqb x TAB) refl (fields_print_again xs)
     go false e h = glued x (fields xs) ∙ ap (λ (l : List ℕ). x ∷ l) h
 
 glued_lines : (x : ℕ) (ls : List (List ℕ)) {g : List ℕ} {r : List (List ℕ)} → ls ≡ g ∷ r → unlines (glue x ls) ≡ x ∷ unlines ls
-glued_lines x [] e = let z : ◌≡◌ {A = ℕ} 0 1 = cc in absurd (omega arith)
+glued_lines x [] e = absurd cc
 glued_lines x (f ∷ fs) e = refl
 
 pub lines_print_again : LinesPrintAgain

@@ -14,6 +14,5 @@ pub mod FileSteps
 pub mod FileLaws
 pub mod Place
 pub mod Puts
-pub mod Room
 pub mod Ranges
 pub mod WorkedTexts

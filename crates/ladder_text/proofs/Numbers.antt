@@ -1,4 +1,5 @@
 -- The two laws of numbers.
+use Rattle.std.specs.Prelude.{None, Some}
 use Prim.Native.Nat.{ℕ, ◌+◌, ◌-◌, ◌*◌, ◌/◌, ◌%◌, ◌≤◌, ◌<◌}
 use mathlib.Core.List.{List, [], ◌∷◌, ◌++◌, append_assoc, append-nil}
 use mathlib.Core.Bool.{Bool, true, false, not, false≢true}
@@ -10,7 +11,6 @@ use borrow.Author.Tests.{le-leb, leb-true, lt-ltb, ne_eqb, eqb-false, not-true}
 use Rattle.ladder_text.specs.Pick.{pick}
 use Rattle.ladder_text.specs.Decimal.{decimal, is_digit, all_digits, goes_on, value, sum_from, opens, number_of}
 use Rattle.ladder_text.specs.Laws.{Numbers}
-use Rattle.ladder_text.specs.declared.types.Number.TheVariants.{Value, Misfit}
 use Rattle.ladder_text.proofs.Choose.{in_true, in_false, and_true}
 use Rattle.ladder_text.proofs.Digits.{decimal_one, decimal_more, by_digits, all_decimal, value_decimal}
 use Rattle.ladder_text.proofs.Printed.{one_long, more_long}
@@ -31,11 +31,11 @@ opens_decimal =
     (λ n p. rw (decimal_one n p) (sym (in_false _ _ _ _ refl refl)))
     (λ n p h. sym (in_true _ _ _ _ (lt-ltb 1 (length (decimal n)) (omega (arith, more_long n p, some_digit (n / 10)))) (sym (ap not (ne_eqb (get_or (decimal n) 0 0) 48 (λ e. omega (arith, leading n (omega arith))))))))
 
-reads_back : (most n : ℕ) → n ≤ most → number_of most (decimal n) ≡ Value n
+reads_back : (most n : ℕ) → n ≤ most → number_of most (decimal n) ≡ Some n
 unfolding number_of sum_from
 reads_back most n p =
     let v = value_decimal n in
-    sym (in_true _ _ _ _ (opens_decimal n) (in_true _ _ _ _ (all_decimal n) (in_true _ _ _ _ (le-leb (value (decimal n)) most (omega arith)) (ap Value (sym v)))))
+    sym (in_true _ _ _ _ (opens_decimal n) (in_true _ _ _ _ (all_decimal n) (in_true _ _ _ _ (le-leb (value (decimal n)) most (omega arith)) (ap Some (sym v)))))
 
 -- read, then printed
 is_digit_lem : (d : ℕ) → is_digit d ≡ true → (48 ≤ d) × (d ≤ 57)
@@ -67,17 +67,17 @@ decimal_value (d ∷ e ∷ ds) p q =
     let same : 48 + (0 * 10 + (d - 48)) ≡ d = omega arith in
     going_on (0 * 10 + (d - 48)) (e ∷ ds) (omega (arith, n)) h.1 ∙ ap (λ (x : List ℕ). x ++ (e ∷ ds)) (decimal_one (0 * 10 + (d - 48)) (omega arith) ∙ ap (λ (x : ℕ). x ∷ []) same)
 
-prints_again : (most : ℕ) (b : List ℕ) (n : ℕ) → number_of most b ≡ Value n → (n ≤ most) × (decimal n ≡ b)
+prints_again : (most : ℕ) (b : List ℕ) (n : ℕ) → number_of most b ≡ Some n → (n ≤ most) × (decimal n ≡ b)
 unfolding number_of sum_from pick
 prints_again most b n e = go (opens b) (all_digits b) (leb (value b) most) refl refl refl e
   where
-    go : (t u w : Bool) → opens b ≡ t → all_digits b ≡ u → leb (value b) most ≡ w → pick t (pick u (pick w (Value (value b)) Misfit) Misfit) Misfit ≡ Value n → (n ≤ most) × (decimal n ≡ b)
+    go : (t u w : Bool) → opens b ≡ t → all_digits b ≡ u → leb (value b) most ≡ w → pick t (pick u (pick w (Some (value b)) None) None) None ≡ Some n → (n ≤ most) × (decimal n ≡ b)
     go true true true p q r e =
         let v : value b ≡ n = cc in
         (omega (arith, leb-true (value b) most r), ap decimal (sym v) ∙ decimal_value b p q)
-    go true true false p q r e = let z : ◌≡◌ {A = ℕ} 0 1 = cc in absurd (omega arith)
-    go true false w p q r e = let z : ◌≡◌ {A = ℕ} 0 1 = cc in absurd (omega arith)
-    go false u w p q r e = let z : ◌≡◌ {A = ℕ} 0 1 = cc in absurd (omega arith)
+    go true true false p q r e = absurd cc
+    go true false w p q r e = absurd cc
+    go false u w p q r e = absurd cc
 
 pub numbers : Numbers
 numbers most = record { back = reads_back most; again = prints_again most }

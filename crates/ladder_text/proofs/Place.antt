@@ -14,9 +14,9 @@ unfolding placed
 placed_length d i t p = simp (length-append, length-take, length-drop) (omega arith)
 
 -- u right behind t
-pub placed_more : (d : List ℕ) (i : ℕ) (t u : List ℕ) → i + length t + length u ≤ length d → placed (placed d i t) (i + length t) u ≡ placed d i (t ++ u)
+pub placed_then : (d : List ℕ) (i : ℕ) (t u : List ℕ) → i ≤ length d → placed (placed d i t) (i + length t) u ≡ placed d i (t ++ u)
 unfolding placed
-placed_more d i t u p =
+placed_then d i t u p =
     let h : List ℕ = take i d ++ t in
     let l : length (take i d) ≡ i = length-take-le i d (omega arith) in
     let m : length h ≡ i + length t = length-append (take i d) t ∙ ap (λ (n : ℕ). n + length t) l in
@@ -26,6 +26,9 @@ placed_more d i t u p =
     let behind : drop (i + length t + length u) (h ++ r) ≡ drop (i + length (t ++ u)) d =
     ap (λ (n : ℕ). drop (n + length u) (h ++ r)) (sym m) ∙ drop-append-add h r (length u) ∙ drop-drop (length u) (i + length t) d ∙ ap (λ (n : ℕ). drop n d) sums in
     rw (whole, take_at h r _ m, behind, append_assoc (take i d) t, append_assoc t u) refl
+
+pub placed_more : (d : List ℕ) (i : ℕ) (t u : List ℕ) → i + length t + length u ≤ length d → placed (placed d i t) (i + length t) u ≡ placed d i (t ++ u)
+placed_more d i t u p = placed_then d i t u (omega arith)
 
 -- a byte put down
 pub placed_byte : (d : List ℕ) (i x : ℕ) → i < length d → set d i x ≡ placed d i (x ∷ [])

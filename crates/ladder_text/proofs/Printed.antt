@@ -23,3 +23,5 @@ put_more d e i n q p room at down =
     let l = more_long n p in
     let k : length e ≡ length d = ap length down ∙ placed_length d i (decimal (n / 10)) (omega arith) in
     (omega arith, placed_byte e q (48 + n % 10) (omega arith) ∙ (rw (down, at, decimal_more n p) (placed_more d i (decimal (n / 10)) ((48 + n % 10) ∷ []) (omega arith))))
+
+pub ruleset printed = (one_long, more_long, put_one, put_more)

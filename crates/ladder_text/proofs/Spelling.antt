@@ -1,34 +1,29 @@
 -- The two laws of the words.
+use Rattle.std.specs.Prelude.{Option, None, Some, option_map}
 use Prim.Native.Nat.{ℕ, zero, suc, ◌<◌}
 use mathlib.Core.List.{List}
 use mathlib.Core.Bool.{true}
-use mathlib.Core.Path.{◌≡◌, refl}
-use mathlib.Core.Logic.{⊎_elim}
+use mathlib.Core.Path.{◌≡◌, refl, ◌∙◌}
+use Rattle.std.specs.Option.{option_or}
 use native.Mathlib.Omega.{arith}
 use Rattle.ladder_text.specs.Pick.{pick}
 use Rattle.ladder_text.specs.Text.{free}
 use Rattle.ladder_text.specs.Decimal.{decimal, number_of}
-use Rattle.ladder_text.specs.Words.{MOST, all_directions, all_fates, all_outcomes, word_receipts, direction_word, direction_of, fate_number, fate_at, fate_word, fate_of, receipt_word, numbered, receipt_of, outcome_word, outcome_of}
+use Rattle.ladder_text.specs.Words.{MOST, named, all_directions, all_fates, all_outcomes, word_receipts, direction_word, direction_of, fate_number, fate_at, fate_word, fate_of, receipt_word, receipt_of, outcome_word, outcome_of}
 use Rattle.ladder_text.specs.Laws.{Any, Directions, Fates, FateNumbers, Outcomes, ReceiptFits, Receipts}
-use Rattle.ladder_text.specs.declared.types.Number.{Number}
-use Rattle.ladder_text.specs.declared.types.Number.TheVariants as number
 use Rattle.ladder_text.specs.declared.types.Direction.{Direction}
 use Rattle.ladder_text.specs.declared.types.Direction.TheVariants.{Read, Write}
-use Rattle.ladder_text.specs.declared.types.ReadDirection.TheVariants as direction
 use Rattle.ladder_text.specs.declared.types.Fate.{Fate}
 use Rattle.ladder_text.specs.declared.types.Fate.TheVariants.{Ok, Noack, Bad, Nonak, Lost}
-use Rattle.ladder_text.specs.declared.types.ReadFate.TheVariants as fate
 use Rattle.ladder_text.specs.declared.types.Receipt.{Receipt}
 use Rattle.ladder_text.specs.declared.types.Receipt.TheVariants as receipt
-use Rattle.ladder_text.specs.declared.types.ReadReceipt.TheVariants as receiver
 use Rattle.ladder_text.specs.declared.types.Outcome.{Outcome}
 use Rattle.ladder_text.specs.declared.types.Outcome.TheVariants.{Delivered, Failed}
-use Rattle.ladder_text.specs.declared.types.ReadOutcome.TheVariants as outcome
 use Rattle.ladder_text.proofs.Digits.{all_decimal}
-use Rattle.ladder_text.proofs.Named.{found, spelt_again, again_of, no_word, free_decimal}
+use Rattle.ladder_text.proofs.Named.{found, no_word, free_decimal}
 use Rattle.ladder_text.proofs.Numbers.{numbers}
 
-direction_back : (d : Direction) → direction_of (direction_word d) ≡ direction.Is d
+direction_back : (d : Direction) → direction_of (direction_word d) ≡ Some d
 unfolding direction_of pick
 direction_back Read = refl
 direction_back Write = refl
@@ -38,10 +33,10 @@ unfolding direction_of
 directions =
     record {
       back = λ d u. direction_back d;
-      again = again_of direction_word direction.Is Any (λ x y p. cc) direction.Misfit all_directions (tt, (tt, tt)) (λ x p. let z : ◌≡◌ {A = ℕ} 0 1 = cc in omega arith);
+      again = found direction_word Any all_directions (tt, (tt, tt));
     }
 
-fate_back : (f : Fate) → fate_of (fate_word f) ≡ fate.Is f
+fate_back : (f : Fate) → fate_of (fate_word f) ≡ Some f
 unfolding fate_of pick
 fate_back Ok = refl
 fate_back Noack = refl
@@ -54,7 +49,7 @@ unfolding fate_of
 fates =
     record {
       back = λ f u. fate_back f;
-      again = again_of fate_word fate.Is Any (λ x y p. cc) fate.Misfit all_fates (tt, (tt, (tt, (tt, (tt, tt))))) (λ x p. let z : ◌≡◌ {A = ℕ} 0 1 = cc in omega arith);
+      again = found fate_word Any all_fates (tt, (tt, (tt, (tt, (tt, tt)))));
     }
 
 number_back : (f : Fate) → fate_at (fate_number f) ≡ f
@@ -72,19 +67,10 @@ at_number (suc (suc (suc zero))) p = refl
 at_number (suc (suc (suc (suc zero)))) p = refl
 at_number (suc (suc (suc (suc (suc n))))) p = absurd (omega arith)
 
--- a number that is none of the first four is that of `lost`
-pub past_nonak : (n : ℕ) → (n ≡ 0 → ⊥) → (n ≡ 1 → ⊥) → (n ≡ 2 → ⊥) → (n ≡ 3 → ⊥) → Lost ≡ fate_at n
-past_nonak zero p q r s = absurd (p refl)
-past_nonak (suc zero) p q r s = absurd (q refl)
-past_nonak (suc (suc zero)) p q r s = absurd (r refl)
-past_nonak (suc (suc (suc zero))) p q r s = absurd (s refl)
-past_nonak (suc (suc (suc (suc zero)))) p q r s = refl
-past_nonak (suc (suc (suc (suc (suc n))))) p q r s = refl
-
 pub fate_numbers : FateNumbers
 fate_numbers = (number_back, at_number)
 
-outcome_back : (o : Outcome) → outcome_of (outcome_word o) ≡ outcome.Is o
+outcome_back : (o : Outcome) → outcome_of (outcome_word o) ≡ Some o
 unfolding outcome_of pick
 outcome_back Delivered = refl
 outcome_back Failed = refl
@@ -94,10 +80,10 @@ unfolding outcome_of
 outcomes =
     record {
       back = λ o u. outcome_back o;
-      again = again_of outcome_word outcome.Is Any (λ x y p. cc) outcome.Misfit all_outcomes (tt, (tt, tt)) (λ x p. let z : ◌≡◌ {A = ℕ} 0 1 = cc in omega arith);
+      again = found outcome_word Any all_outcomes (tt, (tt, tt));
     }
 
-receipt_back : (x : Receipt) → ReceiptFits x → receipt_of (receipt_word x) ≡ receiver.Is x
+receipt_back : (x : Receipt) → ReceiptFits x → receipt_of (receipt_word x) ≡ Some x
 unfolding receipt_of pick
 receipt_back receipt.Stored p = refl
 receipt_back receipt.Discarded p = refl
@@ -107,24 +93,22 @@ receipt_back (receipt.Number n) p =
     rw (no_word (decimal n) 115 _ d (omega arith), no_word (decimal n) 100 _ d (omega arith), no_word (decimal n) 110 _ d (omega arith), (numbers MOST).back n p) refl
 
 -- a number is the word of a receipt too
-receipt_number : (b : List ℕ) (x : Receipt) (n : Number) → number_of MOST b ≡ n → numbered n ≡ receiver.Is x → ReceiptFits x × (receipt_word x ≡ b)
-receipt_number b receipt.Stored (number.Value n) p e = let z : ◌≡◌ {A = ℕ} 0 1 = cc in absurd (omega arith)
-receipt_number b receipt.Discarded (number.Value n) p e = let z : ◌≡◌ {A = ℕ} 0 1 = cc in absurd (omega arith)
-receipt_number b receipt.Nothing (number.Value n) p e = let z : ◌≡◌ {A = ℕ} 0 1 = cc in absurd (omega arith)
-receipt_number b (receipt.Number m) (number.Value n) p e =
+receipt_number : (b : List ℕ) (x : Receipt) (n : Option ℕ) → number_of MOST b ≡ n → option_map receipt.Number n ≡ Some x → ReceiptFits x × (receipt_word x ≡ b)
+receipt_number b receipt.Stored (Some n) p e = absurd cc
+receipt_number b receipt.Discarded (Some n) p e = absurd cc
+receipt_number b receipt.Nothing (Some n) p e = absurd cc
+receipt_number b (receipt.Number m) (Some n) p e =
     let same_number : n ≡ m = cc in
     rw same_number at ((numbers MOST).again b n p)
-receipt_number b x number.Misfit p e = let z : ◌≡◌ {A = ℕ} 0 1 = cc in absurd (omega arith)
+receipt_number b x None p e = absurd cc
+
+receipt_again : (b : List ℕ) (x : Receipt) (w : Option Receipt) → named receipt_word word_receipts b ≡ w → option_or w (option_map receipt.Number (number_of MOST b)) ≡ Some x → ReceiptFits x × (receipt_word x ≡ b)
+receipt_again b x (Some y) p e = found receipt_word ReceiptFits word_receipts (tt, (tt, (tt, tt))) b x (p ∙ e)
+receipt_again b x None p e = receipt_number b x (number_of MOST b) refl e
 
 pub receipts : Receipts
 unfolding receipt_of
-receipts =
-    record {
-      back = receipt_back;
-      again = λ b x e.
-          ⊎_elim (spelt_again receipt_word receiver.Is ReceiptFits (λ x y p. cc) b x) (receipt_number b x (number_of MOST b) refl)
-          (found receipt_word receiver.Is ReceiptFits (numbered (number_of MOST b)) word_receipts (tt, (tt, (tt, tt))) b (receiver.Is x) e);
-    }
+receipts = record { back = receipt_back; again = λ b x e. receipt_again b x (named receipt_word word_receipts b) refl e }
 
 -- a word holds no tab and no line feed
 pub free_direction : (d : Direction) → (free 9 (direction_word d) ≡ true) × (free 10 (direction_word d) ≡ true)

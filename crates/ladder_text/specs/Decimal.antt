@@ -1,8 +1,6 @@
 -- Numbers: "decimal"; "leading zeros (but for 0 itself) do not fit". Digits 0 to 9 only: a sign, a blank or a carriage return is no digit.
-use Rattle.std.specs.Prelude.{ℕ, zero, suc, ◌+◌, ◌-◌, ◌*◌, ◌/◌, ◌%◌, List, [], ◌∷◌, ◌++◌, Bool, true, ◌&&◌, not, length, get_or, leb, ltb, eqb}
+use Rattle.std.specs.Prelude.{ℕ, zero, suc, ◌+◌, ◌-◌, ◌*◌, ◌/◌, ◌%◌, List, [], ◌∷◌, ◌++◌, Bool, true, ◌&&◌, not, length, get_or, leb, ltb, eqb, Option, None, Some}
 use Rattle.ladder_text.specs.Pick.{pick}
-use Rattle.ladder_text.specs.declared.types.Number.{Number}
-use Rattle.ladder_text.specs.declared.types.Number.TheVariants.{Value, Misfit}
 
 -- the digits of n as bytes (that of 0 is 48), found in k steps or fewer; for n, n steps are enough
 unfoldable pub digits : ℕ → ℕ → List ℕ
@@ -28,13 +26,13 @@ abbrev pub value : List ℕ → ℕ
 value b = goes_on 0 b
 
 -- the number v gone on, where only digits follow and it is at most `most`: any number of digits is read
-unfoldable pub sum_from : ℕ → ℕ → List ℕ → Number
-sum_from most v ds = pick (all_digits ds) (pick (leb (goes_on v ds) most) (Value (goes_on v ds)) Misfit) Misfit
+unfoldable pub sum_from : ℕ → ℕ → List ℕ → Option ℕ
+sum_from most v ds = pick (all_digits ds) (pick (leb (goes_on v ds) most) (Some (goes_on v ds)) None) None
 
 -- one byte or more, and no leading zero but for 0 itself
 abbrev pub opens : List ℕ → Bool
 opens b = pick (ltb 1 (length b)) (not (eqb (get_or b 0 0) 48)) (eqb (length b) 1)
 
 -- the number that b is, where it is one and at most `most`
-unfoldable pub number_of : ℕ → List ℕ → Number
-number_of most b = pick (opens b) (sum_from most 0 b) Misfit
+unfoldable pub number_of : ℕ → List ℕ → Option ℕ
+number_of most b = pick (opens b) (sum_from most 0 b) None

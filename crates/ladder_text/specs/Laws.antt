@@ -1,54 +1,45 @@
 -- The two laws of each text: what is printed reads back, what is read prints again. Each is stated here and proved in proofs/.
-use Rattle.std.specs.Prelude.{ℕ, ◌+◌, ◌*◌, ◌≤◌, ◌<◌, List, ◌∷◌, ◌++◌, true, ◌≡◌, length, get_or, drop}
+use Rattle.std.specs.Prelude.{ℕ, ◌+◌, ◌*◌, ◌≤◌, ◌<◌, List, ◌∷◌, ◌++◌, true, ◌≡◌, length, get_or, drop, Option, Some}
 use Rattle.ladder_text.specs.Text.{LF, TAB, lines, fields, unlines, joined, all_free, finished}
 use Rattle.ladder_text.specs.Decimal.{decimal, number_of}
 use Rattle.ladder_text.specs.Words.{MOST, direction_word, direction_of, fate_number, fate_at, fate_word, fate_of, receipt_word, receipt_of, outcome_word, outcome_of}
 use Rattle.ladder_text.specs.Rows.{within_limits, run_text, run_of, row_text, row_of, verdict_text, verdict_of, ladder_lines, ladder_text, refused_text, refused_of}
 use Rattle.ladder_text.specs.Place.{ROOM, ended, cell, line_text}
-use Rattle.ladder_text.specs.RunFile.{MOST-BYTES, file_text, file_of, fates_at, next_fate}
-use Rattle.ladder_text.specs.declared.types.Number.TheVariants as number
+use Rattle.ladder_text.specs.RunFile.{MOST-BYTES, file_text, taken, file_of, fates_at, next_fate}
 use Rattle.ladder_text.specs.declared.types.Direction.{Direction}
-use Rattle.ladder_text.specs.declared.types.ReadDirection.TheVariants as direction
-use Rattle.ladder_text.specs.declared.types.ReadFate.TheVariants as fate
 use Rattle.ladder_text.specs.declared.types.Receipt.{Receipt}
 use Rattle.ladder_text.specs.declared.types.Receipt.TheVariants.{Stored, Discarded, Nothing, Number}
-use Rattle.ladder_text.specs.declared.types.ReadReceipt.TheVariants as receipt
 use Rattle.ladder_text.specs.declared.types.Outcome.{Outcome}
-use Rattle.ladder_text.specs.declared.types.ReadOutcome.TheVariants as outcome
 use Rattle.ladder_text.specs.declared.types.Fate.{Fate}
 use Rattle.ladder_text.specs.declared.types.Fate.TheVariants.{Ok}
 use Rattle.ladder_text.specs.declared.types.Run.{Run}
-use Rattle.ladder_text.specs.declared.types.ReadRun.TheVariants as run
-use Rattle.ladder_text.specs.declared.types.RunFile.TheVariants as file
 use Rattle.ladder_text.specs.declared.types.NextFate.{NextFate}
 use Rattle.ladder_text.specs.declared.types.Row.{Row}
-use Rattle.ladder_text.specs.declared.types.ReadRow.TheVariants as row
 use Rattle.ladder_text.specs.declared.types.Verdict.{Verdict}
-use Rattle.ladder_text.specs.declared.types.ReadVerdict.TheVariants as verdict
 
--- of values that fit: `text` prints a value, `read` answers it by `is`
-pub record TwoLaws {A R : Type 0} (text : A → List ℕ) (read : List ℕ → R) (is : A → R) (Fits : A → Type 0) : Type 0 where
-  pub back : (a : A) → Fits a → read (text a) ≡ is a
-  pub again : (b : List ℕ) (a : A) → read b ≡ is a → Fits a × (text a ≡ b)
+-- of values that fit: `text` prints a value, `read` answers it
+pub record TwoLaws {A : Type 0} (text : A → List ℕ) (read : List ℕ → Option A) (Fits : A → Type 0) : Type 0 where
+  pub back : (a : A) → Fits a → read (text a) ≡ Some a
+  pub again : (b : List ℕ) (a : A) → read b ≡ Some a → Fits a × (text a ≡ b)
 
 -- every value fits
 abbrev pub Any : {A : Type 0} → A → Type 0
 Any a = Unit {0}
 
 abbrev pub Numbers : Type 0
-Numbers = (most : ℕ) → TwoLaws decimal (number_of most) number.Value (λ n. n ≤ most)
+Numbers = (most : ℕ) → TwoLaws decimal (number_of most) (λ n. n ≤ most)
 
 abbrev pub Directions : Type 0
-Directions = TwoLaws direction_word direction_of direction.Is Any
+Directions = TwoLaws direction_word direction_of Any
 
 abbrev pub Fates : Type 0
-Fates = TwoLaws fate_word fate_of fate.Is Any
+Fates = TwoLaws fate_word fate_of Any
 
 abbrev pub FateNumbers : Type 0
 FateNumbers = ((f : Fate) → fate_at (fate_number f) ≡ f) × ((n : ℕ) → n < 5 → fate_number (fate_at n) ≡ n)
 
 abbrev pub Outcomes : Type 0
-Outcomes = TwoLaws outcome_word outcome_of outcome.Is Any
+Outcomes = TwoLaws outcome_word outcome_of Any
 
 abbrev pub ReceiptFits : Receipt → Type 0
 ReceiptFits Stored = Unit {0}
@@ -57,11 +48,11 @@ ReceiptFits Nothing = Unit {0}
 ReceiptFits (Number n) = n ≤ MOST
 
 abbrev pub Receipts : Type 0
-Receipts = TwoLaws receipt_word receipt_of receipt.Is ReceiptFits
+Receipts = TwoLaws receipt_word receipt_of ReceiptFits
 
 -- line one within its limits
 abbrev pub Runs : Type 0
-Runs = TwoLaws run_text run_of run.Is (λ r. within_limits r ≡ true)
+Runs = TwoLaws run_text run_of (λ r. within_limits r ≡ true)
 
 -- rows of numbers up to `MOST`
 pub record RowFits (r : Row) : Type 0 where
@@ -72,7 +63,7 @@ pub record RowFits (r : Row) : Type 0 where
   pub receipt : ReceiptFits r.receipt
 
 abbrev pub Rows : Type 0
-Rows = TwoLaws row_text row_of row.Is RowFits
+Rows = TwoLaws row_text row_of RowFits
 
 pub record VerdictFits (v : Verdict) : Type 0 where
   pub number : v.number ≤ MOST
@@ -81,10 +72,10 @@ pub record VerdictFits (v : Verdict) : Type 0 where
   pub filled : v.filled ≤ MOST
 
 abbrev pub Verdicts : Type 0
-Verdicts = TwoLaws verdict_text verdict_of verdict.Is VerdictFits
+Verdicts = TwoLaws verdict_text verdict_of VerdictFits
 
 abbrev pub Refusals : Type 0
-Refusals = TwoLaws refused_text refused_of number.Value (λ n. n ≤ MOST)
+Refusals = TwoLaws refused_text refused_of (λ n. n ≤ MOST)
 
 pub record RunFits (r : Run) : Type 0 where
   pub count : r.count ≤ MOST
@@ -139,14 +130,14 @@ FieldsPrintAgain = (l : List ℕ) → joined (fields l) ≡ l
 abbrev pub FilesReadBack : Type 0
 FilesReadBack =
     (r : Run) (fs : List Fate) → within_limits r ≡ true → length (file_text r fs) ≤ MOST-BYTES →
-    (file_of (file_text r fs) ≡ file.Run r (length (run_text r) + 1)) × (fates_at (file_text r fs) (length (run_text r) + 1) ≡ fs)
+    (file_of (file_text r fs) ≡ taken r (length (run_text r) + 1)) × (fates_at (file_text r fs) (length (run_text r) + 1) ≡ fs)
 
 abbrev pub FilesPrintAgain : Type 0
-FilesPrintAgain = (b : List ℕ) (r : Run) (at : ℕ) → file_of b ≡ file.Run r at → (within_limits r ≡ true) × (file_text r (fates_at b at) ≡ finished b)
+FilesPrintAgain = (b : List ℕ) (r : Run) (at : ℕ) → file_of b ≡ taken r at → (within_limits r ≡ true) × (file_text r (fates_at b at) ≡ finished b)
 
 -- a run file has line one, and three bytes or more for each fate
 abbrev pub FewFates : Type 0
-FewFates = (b : List ℕ) (r : Run) (at : ℕ) → file_of b ≡ file.Run r at → length (run_text r) + 3 * length (fates_at b at) ≤ length b
+FewFates = (b : List ℕ) (r : Run) (at : ℕ) → file_of b ≡ taken r at → length (run_text r) + 3 * length (fates_at b at) ≤ length b
 
 -- the fates of a file, one after the other; past the list, `ok`
 abbrev pub InTurn : List ℕ → ℕ → NextFate → Type 0

@@ -1,80 +1,44 @@
 -- Lines of several fields: line one of a run file, the rows of a ladder, its verdict, and `refused`.
-use Rattle.std.specs.Prelude.{ℕ, ◌+◌, ◌%◌, List, [], ◌∷◌, ◌++◌, map, Bool, length, get_or, leb, eqb}
+use Rattle.std.specs.Prelude.{ℕ, ◌+◌, ◌%◌, List, [], ◌∷◌, ◌++◌, map, Bool, length, get_or, leb, eqb, Option, None, Some, option_and_then, bytes_eq}
 use Rattle.ladder_text.specs.Pick.{pick, all}
 use Rattle.ladder_text.specs.Text.{fields, joined, unlines}
 use Rattle.ladder_text.specs.Decimal.{decimal, number_of}
-use Rattle.ladder_text.specs.Words.{MOST, same, direction_word, direction_of, fate_word, fate_of, receipt_word, receipt_of, outcome_word, outcome_of, refused_word}
-use Rattle.ladder_text.specs.declared.types.Number.{Number}
-use Rattle.ladder_text.specs.declared.types.Number.TheVariants.{Value, Misfit}
-use Rattle.ladder_text.specs.declared.types.Quad.{Quad}
-use Rattle.ladder_text.specs.declared.types.ReadQuad.{ReadQuad}
-use Rattle.ladder_text.specs.declared.types.ReadQuad.TheVariants as quad
+use Rattle.ladder_text.specs.Words.{MOST, direction_word, direction_of, fate_word, fate_of, receipt_word, receipt_of, outcome_word, outcome_of, refused_word}
 use Rattle.ladder_text.specs.declared.types.Direction.{Direction}
-use Rattle.ladder_text.specs.declared.types.ReadDirection.{ReadDirection}
-use Rattle.ladder_text.specs.declared.types.ReadDirection.TheVariants as direction
 use Rattle.ladder_text.specs.declared.types.Fate.{Fate}
-use Rattle.ladder_text.specs.declared.types.ReadFate.{ReadFate}
-use Rattle.ladder_text.specs.declared.types.ReadFate.TheVariants as fate
 use Rattle.ladder_text.specs.declared.types.Receipt.{Receipt}
-use Rattle.ladder_text.specs.declared.types.ReadReceipt.{ReadReceipt}
-use Rattle.ladder_text.specs.declared.types.ReadReceipt.TheVariants as receipt
 use Rattle.ladder_text.specs.declared.types.Outcome.{Outcome}
-use Rattle.ladder_text.specs.declared.types.ReadOutcome.{ReadOutcome}
-use Rattle.ladder_text.specs.declared.types.ReadOutcome.TheVariants as outcome
 use Rattle.ladder_text.specs.declared.types.Run.{Run}
-use Rattle.ladder_text.specs.declared.types.ReadRun.{ReadRun}
-use Rattle.ladder_text.specs.declared.types.ReadRun.TheVariants as run
 use Rattle.ladder_text.specs.declared.types.Row.{Row}
-use Rattle.ladder_text.specs.declared.types.ReadRow.{ReadRow}
-use Rattle.ladder_text.specs.declared.types.ReadRow.TheVariants as row
 use Rattle.ladder_text.specs.declared.types.Verdict.{Verdict}
-use Rattle.ladder_text.specs.declared.types.ReadVerdict.{ReadVerdict}
-use Rattle.ladder_text.specs.declared.types.ReadVerdict.TheVariants as verdict
 
 -- field i of a line, from 0
 abbrev pub field_at : List ℕ → ℕ → List ℕ
 field_at l i = get_or (fields l) i []
 
--- a line of n fields, else the other answer
-abbrev pub of_fields : {R : Type 0} → ℕ → List ℕ → R → R → R
-of_fields n l answer other = pick (eqb (length (fields l)) n) answer other
+-- what a line of n fields is read as; a line of another number of fields does not fit
+abbrev pub of_fields : {A : Type 0} → ℕ → List ℕ → Option A → Option A
+of_fields n l answer = pick (eqb (length (fields l)) n) answer None
 
-abbrev pub number_at : List ℕ → ℕ → Number
+abbrev pub number_at : List ℕ → ℕ → Option ℕ
 number_at l i = number_of MOST (field_at l i)
 
--- go on with what was read, or give the other answer
-abbrev pub with_number : {R : Type 0} → Number → R → (ℕ → R) → R
-with_number (Value x) other go = go x
-with_number Misfit other go = other
+-- go on with what was read, where it fits
+abbrev pub given : {A B : Type 0} → Option A → (A → Option B) → Option B
+given x go = option_and_then go x
 
-abbrev pub with_quad : {R : Type 0} → ReadQuad → R → (Quad → R) → R
-with_quad (quad.Are x) other go = go x
-with_quad quad.Misfit other go = other
-
-abbrev pub with_direction : {R : Type 0} → ReadDirection → R → (Direction → R) → R
-with_direction (direction.Is x) other go = go x
-with_direction direction.Misfit other go = other
-
-abbrev pub with_fate : {R : Type 0} → ReadFate → R → (Fate → R) → R
-with_fate (fate.Is x) other go = go x
-with_fate fate.Misfit other go = other
-
-abbrev pub with_receipt : {R : Type 0} → ReadReceipt → R → (Receipt → R) → R
-with_receipt (receipt.Is x) other go = go x
-with_receipt receipt.Misfit other go = other
-
-abbrev pub with_outcome : {R : Type 0} → ReadOutcome → R → (Outcome → R) → R
-with_outcome (outcome.Is x) other go = go x
-with_outcome outcome.Misfit other go = other
+-- four numbers side by side
+pub record Quad : Type 0 where
+  pub a : ℕ
+  pub b : ℕ
+  pub c : ℕ
+  pub d : ℕ
 
 -- four numbers, in the fields of a line from i on
-abbrev pub quad_from : Number → Number → Number → Number → ReadQuad
-quad_from a b c d =
-    with_number a quad.Misfit λ a'. with_number b quad.Misfit λ b'. with_number c quad.Misfit λ c'. with_number d quad.Misfit λ d'.
-    quad.Are (record { a = a'; b = b'; c = c'; d = d' })
-
-unfoldable pub quad_at : List ℕ → ℕ → ReadQuad
-quad_at l i = quad_from (number_at l i) (number_at l (i + 1)) (number_at l (i + 2)) (number_at l (i + 3))
+unfoldable pub quad_at : List ℕ → ℕ → Option Quad
+quad_at l i =
+    given (number_at l i) λ a. given (number_at l (i + 1)) λ b. given (number_at l (i + 2)) λ c. given (number_at l (i + 3)) λ d.
+    Some (record { a = a; b = b; c = c; d = d })
 
 -- "Line one, by tabs: `read` or `write`, byte count, data size, window, retry limit, decimal"
 abbrev pub run_text : Run → List ℕ
@@ -90,16 +54,16 @@ limits r =
 abbrev pub within_limits : Run → Bool
 within_limits r = all (limits r)
 
-abbrev pub within_or : Run → ReadRun
-within_or r = pick (within_limits r) (run.Is r) run.Misfit
+abbrev pub within_or : Run → Option Run
+within_or r = pick (within_limits r) (Some r) None
 
-abbrev pub run_from : ReadDirection → ReadQuad → ReadRun
+abbrev pub run_from : Option Direction → Option Quad → Option Run
 run_from d q =
-    with_direction d run.Misfit λ d'. with_quad q run.Misfit λ q'.
+    given d λ d'. given q λ q'.
     within_or (record { direction = d'; count = q'.a; size = q'.b; window = q'.c; limit = q'.d })
 
-unfoldable pub run_of : List ℕ → ReadRun
-run_of l = of_fields 5 l (run_from (direction_of (field_at l 0)) (quad_at l 1)) run.Misfit
+unfoldable pub run_of : List ℕ → Option Run
+run_of l = of_fields 5 l (run_from (direction_of (field_at l 0)) (quad_at l 1))
 
 -- "Fields: frame (from 1), offset, bytes, CDP, fate, receiver"
 abbrev pub row_text : Row → List ℕ
@@ -107,13 +71,13 @@ row_text r =
     joined
     (decimal r.frame ∷ decimal r.offset ∷ decimal r.bytes ∷ decimal r.cdp ∷ fate_word r.fate ∷ receipt_word r.receipt ∷ [])
 
-abbrev pub row_from : ReadQuad → ReadFate → ReadReceipt → ReadRow
+abbrev pub row_from : Option Quad → Option Fate → Option Receipt → Option Row
 row_from q f x =
-    with_quad q row.Misfit λ q'. with_fate f row.Misfit λ f'. with_receipt x row.Misfit λ x'.
-    row.Is (record { frame = q'.a; offset = q'.b; bytes = q'.c; cdp = q'.d; fate = f'; receipt = x' })
+    given q λ q'. given f λ f'. given x λ x'.
+    Some (record { frame = q'.a; offset = q'.b; bytes = q'.c; cdp = q'.d; fate = f'; receipt = x' })
 
-unfoldable pub row_of : List ℕ → ReadRow
-row_of l = of_fields 6 l (row_from (quad_at l 0) (fate_of (field_at l 4)) (receipt_of (field_at l 5))) row.Misfit
+unfoldable pub row_of : List ℕ → Option Row
+row_of l = of_fields 6 l (row_from (quad_at l 0) (fate_of (field_at l 4)) (receipt_of (field_at l 5)))
 
 -- "last line, the sender's verdict, `delivered` or `failed`, number (0 when delivered), frames, faults, the receiver's filled mark"
 abbrev pub verdict_text : Verdict → List ℕ
@@ -121,13 +85,13 @@ verdict_text v =
     joined
     (outcome_word v.outcome ∷ decimal v.number ∷ decimal v.frames ∷ decimal v.faults ∷ decimal v.filled ∷ [])
 
-abbrev pub verdict_from : ReadOutcome → ReadQuad → ReadVerdict
+abbrev pub verdict_from : Option Outcome → Option Quad → Option Verdict
 verdict_from o q =
-    with_outcome o verdict.Misfit λ o'. with_quad q verdict.Misfit λ q'.
-    verdict.Is (record { outcome = o'; number = q'.a; frames = q'.b; faults = q'.c; filled = q'.d })
+    given o λ o'. given q λ q'.
+    Some (record { outcome = o'; number = q'.a; frames = q'.b; faults = q'.c; filled = q'.d })
 
-unfoldable pub verdict_of : List ℕ → ReadVerdict
-verdict_of l = of_fields 5 l (verdict_from (outcome_of (field_at l 0)) (quad_at l 1)) verdict.Misfit
+unfoldable pub verdict_of : List ℕ → Option Verdict
+verdict_of l = of_fields 5 l (verdict_from (outcome_of (field_at l 0)) (quad_at l 1))
 
 -- a whole ladder
 abbrev pub ladder_lines : List Row → Verdict → List (List ℕ)
@@ -140,5 +104,5 @@ ladder_text rs v = unlines (ladder_lines rs v)
 abbrev pub refused_text : ℕ → List ℕ
 refused_text n = joined (refused_word ∷ decimal n ∷ [])
 
-unfoldable pub refused_of : List ℕ → Number
-refused_of l = of_fields 2 l (pick (same (field_at l 0) refused_word) (number_at l 1) Misfit) Misfit
+unfoldable pub refused_of : List ℕ → Option ℕ
+refused_of l = of_fields 2 l (pick (bytes_eq (field_at l 0) refused_word) (number_at l 1) None)

@@ -1,42 +1,24 @@
 -- The words of run files and ladders, as bytes.
-use Rattle.std.specs.Prelude.{ℕ, List, [], ◌∷◌, Bool, true, false, ◌&&◌, get_or, eqb}
-use Rattle.ladder_text.specs.Pick.{pick}
+use Rattle.std.specs.Prelude.{ℕ, List, [], ◌∷◌, get_or, find, bytes_eq, Option, option_map}
+use Rattle.std.specs.Option.{option_or}
 use Rattle.ladder_text.specs.Text.{bytes}
 use Rattle.ladder_text.specs.Decimal.{decimal, number_of}
-use Rattle.ladder_text.specs.declared.types.Number.{Number}
-use Rattle.ladder_text.specs.declared.types.Number.TheVariants as number
 use Rattle.ladder_text.specs.declared.types.Direction.{Direction}
 use Rattle.ladder_text.specs.declared.types.Direction.TheVariants.{Read, Write}
-use Rattle.ladder_text.specs.declared.types.ReadDirection.{ReadDirection}
-use Rattle.ladder_text.specs.declared.types.ReadDirection.TheVariants as direction
 use Rattle.ladder_text.specs.declared.types.Fate.{Fate}
 use Rattle.ladder_text.specs.declared.types.Fate.TheVariants.{Ok, Noack, Bad, Nonak, Lost}
-use Rattle.ladder_text.specs.declared.types.ReadFate.{ReadFate}
-use Rattle.ladder_text.specs.declared.types.ReadFate.TheVariants as fate
 use Rattle.ladder_text.specs.declared.types.Receipt.{Receipt}
 use Rattle.ladder_text.specs.declared.types.Receipt.TheVariants as receipt
-use Rattle.ladder_text.specs.declared.types.ReadReceipt.{ReadReceipt}
-use Rattle.ladder_text.specs.declared.types.ReadReceipt.TheVariants as receiver
 use Rattle.ladder_text.specs.declared.types.Outcome.{Outcome}
 use Rattle.ladder_text.specs.declared.types.Outcome.TheVariants.{Delivered, Failed}
-use Rattle.ladder_text.specs.declared.types.ReadOutcome.{ReadOutcome}
-use Rattle.ladder_text.specs.declared.types.ReadOutcome.TheVariants as outcome
 
 -- the greatest number that any field can hold; a limit of its own, as of line one, is tested beside it
 abbrev pub MOST : ℕ
 MOST = 4_294_967_295
 
--- the same bytes
-abbrev pub same : List ℕ → List ℕ → Bool
-same [] [] = true
-same [] (y ∷ ys) = false
-same (x ∷ xs) [] = false
-same (x ∷ xs) (y ∷ ys) = eqb x y && same xs ys
-
--- the first of some values whose word is b, else `other`
-abbrev pub find : {A R : Type 0} → (A → List ℕ) → (A → R) → R → List A → List ℕ → R
-find word is other [] b = other
-find word is other (a ∷ rest) b = pick (same b (word a)) (is a) (find word is other rest b)
+-- the first of some values whose word is b
+abbrev pub named : {A : Type 0} → (A → List ℕ) → List A → List ℕ → Option A
+named word all b = find (λ a. bytes_eq b (word a)) all
 
 -- "`read` or `write`"
 abbrev pub direction_word : Direction → List ℕ
@@ -46,8 +28,8 @@ direction_word Write = bytes "write"
 abbrev pub all_directions : List Direction
 all_directions = Read ∷ Write ∷ []
 
-unfoldable pub direction_of : List ℕ → ReadDirection
-direction_of b = find direction_word direction.Is direction.Misfit all_directions b
+unfoldable pub direction_of : List ℕ → Option Direction
+direction_of b = named direction_word all_directions b
 
 -- "`ok`, `noack` (ACK lost), `bad` (damaged, NAK arrives), `nonak` (damaged, NAK lost), `lost`"
 abbrev pub fate_word : Fate → List ℕ
@@ -71,8 +53,8 @@ fate_number Lost = 4
 abbrev pub fate_at : ℕ → Fate
 fate_at n = get_or all_fates n Lost
 
-unfoldable pub fate_of : List ℕ → ReadFate
-fate_of b = find fate_word fate.Is fate.Misfit all_fates b
+unfoldable pub fate_of : List ℕ → Option Fate
+fate_of b = named fate_word all_fates b
 
 -- "receiver (`stored`, `discarded`, `none` where nothing arrived, or the number it gave)"
 abbrev pub receipt_word : Receipt → List ℕ
@@ -81,15 +63,11 @@ receipt_word receipt.Discarded = bytes "discarded"
 receipt_word receipt.Nothing = bytes "none"
 receipt_word (receipt.Number n) = decimal n
 
-abbrev pub numbered : Number → ReadReceipt
-numbered (number.Value n) = receiver.Is (receipt.Number n)
-numbered number.Misfit = receiver.Misfit
-
 abbrev pub word_receipts : List Receipt
 word_receipts = receipt.Stored ∷ receipt.Discarded ∷ receipt.Nothing ∷ []
 
-unfoldable pub receipt_of : List ℕ → ReadReceipt
-receipt_of b = find receipt_word receiver.Is (numbered (number_of MOST b)) word_receipts b
+unfoldable pub receipt_of : List ℕ → Option Receipt
+receipt_of b = option_or (named receipt_word word_receipts b) (option_map receipt.Number (number_of MOST b))
 
 -- "the sender's verdict, `delivered` or `failed`"
 abbrev pub outcome_word : Outcome → List ℕ
@@ -99,8 +77,8 @@ outcome_word Failed = bytes "failed"
 abbrev pub all_outcomes : List Outcome
 all_outcomes = Delivered ∷ Failed ∷ []
 
-unfoldable pub outcome_of : List ℕ → ReadOutcome
-outcome_of b = find outcome_word outcome.Is outcome.Misfit all_outcomes b
+unfoldable pub outcome_of : List ℕ → Option Outcome
+outcome_of b = named outcome_word all_outcomes b
 
 -- "prints only `refused`, tab, line number"
 abbrev pub refused_word : List ℕ

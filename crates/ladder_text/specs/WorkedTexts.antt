@@ -1,13 +1,12 @@
 -- What the definitions answer to texts that a reader may ask about. Proved in proofs/WorkedTexts.antt, by computing each.
-use Rattle.std.specs.Prelude.{ℕ, List, [], ◌∷◌, ◌≡◌}
+use Rattle.std.specs.Prelude.{ℕ, List, [], ◌∷◌, ◌≡◌, None, Some}
 use Rattle.ladder_text.specs.Text.{bytes, lines, fields}
 use Rattle.ladder_text.specs.Lent.{field_start}
 use Rattle.ladder_text.specs.Decimal.{number_of}
 use Rattle.ladder_text.specs.Words.{MOST}
 use Rattle.ladder_text.specs.Rows.{ladder_text, refused_text}
 use Rattle.ladder_text.specs.Place.{line_text}
-use Rattle.ladder_text.specs.RunFile.{file_of}
-use Rattle.ladder_text.specs.declared.types.Number.TheVariants.{Value, Misfit}
+use Rattle.ladder_text.specs.RunFile.{taken, refused, file_of}
 use Rattle.ladder_text.specs.declared.types.Direction.TheVariants.{Read}
 use Rattle.ladder_text.specs.declared.types.Fate.{Fate}
 use Rattle.ladder_text.specs.declared.types.Fate.TheVariants.{Ok, Lost}
@@ -16,7 +15,6 @@ use Rattle.ladder_text.specs.declared.types.Receipt.TheVariants.{Stored, Discard
 use Rattle.ladder_text.specs.declared.types.Outcome.TheVariants.{Delivered}
 use Rattle.ladder_text.specs.declared.types.Run.{Run}
 use Rattle.ladder_text.specs.declared.types.Row.{Row}
-use Rattle.ladder_text.specs.declared.types.RunFile.TheVariants as file
 
 -- "Input `read 10 4 3 1`"
 abbrev pub example : Run
@@ -37,16 +35,16 @@ example_rows =
 
 pub record WorkedTexts : Type 0 where
   -- numbers
-  pub nought : number_of MOST (bytes "0") ≡ Value 0
-  pub greatest : number_of MOST (bytes "4294967295") ≡ Value 4_294_967_295
-  pub above : number_of MOST (bytes "4294967296") ≡ Misfit
-  pub long : number_of MOST (bytes "18446744073709551617") ≡ Misfit
-  pub nothing : number_of MOST (bytes "") ≡ Misfit
-  pub zeros : number_of MOST (bytes "00") ≡ Misfit
-  pub leading : number_of MOST (bytes "07") ≡ Misfit
-  pub sign : number_of MOST (bytes "+7") ≡ Misfit
-  pub blank : number_of MOST (bytes "7 ") ≡ Misfit
-  pub carriage : number_of MOST (bytes "7\r") ≡ Misfit
+  pub nought : number_of MOST (bytes "0") ≡ Some 0
+  pub greatest : number_of MOST (bytes "4294967295") ≡ Some 4_294_967_295
+  pub above : number_of MOST (bytes "4294967296") ≡ None
+  pub long : number_of MOST (bytes "18446744073709551617") ≡ None
+  pub nothing : number_of MOST (bytes "") ≡ None
+  pub zeros : number_of MOST (bytes "00") ≡ None
+  pub leading : number_of MOST (bytes "07") ≡ None
+  pub sign : number_of MOST (bytes "+7") ≡ None
+  pub blank : number_of MOST (bytes "7 ") ≡ None
+  pub carriage : number_of MOST (bytes "7\r") ≡ None
   -- lines and fields
   pub ended : lines (bytes "ok\nbad\n") ≡ bytes "ok" ∷ bytes "bad" ∷ []
   pub unended : lines (bytes "ok\nbad") ≡ bytes "ok" ∷ bytes "bad" ∷ []
@@ -57,13 +55,13 @@ pub record WorkedTexts : Type 0 where
   pub two_tabs : field_start (bytes "a\t\tok") 2 ≡ 3
   pub no_field : field_start (bytes "a\t\tok") 3 ≡ 5
   -- run files
-  pub taken : file_of (bytes "read\t10\t4\t3\t1\nlost") ≡ file.Run example 14
-  pub empty_input : file_of (bytes "") ≡ file.Refused 1
-  pub too_many : file_of (bytes "read\t65537\t4\t3\t1\n") ≡ file.Refused 1
-  pub six_fields : file_of (bytes "read\t10\t4\t3\t1\t\n") ≡ file.Refused 1
-  pub carriage_return : file_of (bytes "read\t10\t4\t3\t1\r\nok\n") ≡ file.Refused 1
-  pub other_word : file_of (bytes "read\t10\t4\t3\t1\nok\nOK\nlost\n") ≡ file.Refused 3
-  pub empty_at_end : file_of (bytes "read\t10\t4\t3\t1\nok\n\n") ≡ file.Refused 3
+  pub taken : file_of (bytes "read\t10\t4\t3\t1\nlost") ≡ taken example 14
+  pub empty_input : file_of (bytes "") ≡ refused 1
+  pub too_many : file_of (bytes "read\t65537\t4\t3\t1\n") ≡ refused 1
+  pub six_fields : file_of (bytes "read\t10\t4\t3\t1\t\n") ≡ refused 1
+  pub carriage_return : file_of (bytes "read\t10\t4\t3\t1\r\nok\n") ≡ refused 1
+  pub other_word : file_of (bytes "read\t10\t4\t3\t1\nok\nOK\nlost\n") ≡ refused 3
+  pub empty_at_end : file_of (bytes "read\t10\t4\t3\t1\nok\n\n") ≡ refused 3
   -- the paper's ladder
   pub ladder : ladder_text example_rows (record { outcome = Delivered; number = 0; frames = 6; faults = 1; filled = 10 }) ≡ bytes "1\t0\t4\t0\tlost\tnone\n2\t4\t4\t0\tok\tdiscarded\n3\t8\t2\t0\tok\tdiscarded\n4\t0\t4\t1\tok\tstored\n5\t4\t4\t0\tok\tstored\n6\t8\t2\t0\tok\tstored\ndelivered\t0\t6\t1\t10\n"
   pub refusal : line_text (refused_text 65_537) ≡ bytes "refused\t65537\n"

@@ -1,151 +1,186 @@
-// Lines of several fields, printed where there is room. Each function prints at `at` and answers the place behind what it printed.
-ghost use Rattle.std.specs.Prelude.{[], ◌∷◌, ◌+◌, ◌≤◌, length};
-ghost use Rattle.ladder_text.specs.Text.{TAB};
+// What is printed. Each printer prints at `at` and answers the place behind it.
+ghost use Rattle.std.specs.Prelude.{ℕ, List, [], ◌∷◌, ◌+◌, ◌≤◌, ◌<◌, length};
+ghost use Rattle.std.proofs.Common.{lit<};
+ghost use Rattle.ladder_text.specs.Decimal.{decimal};
 ghost use Rattle.ladder_text.specs.Words.{direction_word, fate_word, receipt_word, outcome_word};
 ghost use Rattle.ladder_text.specs.Rows.{run_text, row_text, verdict_text, refused_text};
-ghost use Rattle.ladder_text.specs.Place.{Puts, ended, cell, two, quad_text, line_text, row_end};
+ghost use Rattle.ladder_text.specs.Place.{ROOM, Puts, ended};
 
-use crate::types::{Direction, Fate, Outcome, Quad, Receipt, Row, Run, Verdict};
-use crate::{decimal, words};
+use crate::decimal;
+use crate::types::{Direction, Fate, Misfit, Outcome, Receipt, Row, Run, Verdict};
+use crate::words::Word;
 
-fn print_byte(out: &mut [u8], at: usize, b: u8) -> usize
-    requires { at + 1 ≤ length out.old }
-    ensures { Puts out.old at (b ∷ []) result out.new }
-{
-    out[at] = b;
-    at + 1
+// What has a text: a number, a word, a line without its line feed.
+pub trait Printable: Copy {
+    ghost text: { Self → List ℕ };
+
+    // No text of a value that the code holds has more bytes.
+    ghost most: { ℕ };
+
+    fn print(self, out: &mut [u8], at: usize) -> usize
+        requires { at + most ≤ length out.old }
+        ensures short { length (text self) ≤ most }
+        ensures puts { Puts out.old at (text self) result out.new };
+
+    // The text has room, and a byte that ends it.
+    ghost fits: { most < ROOM };
 }
 
-// A number, and the byte that ends its field.
-pub(crate) fn print_cell(out: &mut [u8], at: usize, n: u32, end: u8) -> usize
-    requires { at + length (cell n end) ≤ length out.old }
-    ensures { Puts out.old at (cell n end) result out.new }
+// The word w.
+#[tactic(auto, using(crate::proofs::Place::copied))]
+fn print_word(out: &mut [u8], at: usize, w: &[u8]) -> usize
+    requires { at + length w.now ≤ length out.old }
+    ensures { Puts out.old at w.now result out.new }
 {
-    let p = decimal::print_number(out, at, n);
-    print_byte(out, p, end)
+    let end = at + w.len();
+    out[at..end].copy_from_slice(w);
+    end
 }
 
-fn print_two(out: &mut [u8], at: usize, m: u32, n: u32, end: u8) -> usize
-    requires { at + length (two m n end) ≤ length out.old }
-    ensures { Puts out.old at (two m n end) result out.new }
+// A text, and the byte that ends it.
+#[tactic(auto, using(crate::proofs::Puts::printing))]
+pub(crate) fn print_ended<T: Printable>(out: &mut [u8], at: usize, x: T, end: u8) -> usize
+    requires { at + T.most < length out.old }
+    ensures short { length (ended end (T.text x)) ≤ T.most + 1 }
+    ensures puts { Puts out.old at (ended end (T.text x)) result out.new }
 {
-    let p = print_cell(out, at, m, b'\t');
-    print_cell(out, p, n, end)
+    let p = x.print(out, at);
+    out[p] = end;
+    p + 1
 }
 
-// Four numbers with tabs between, and the byte that ends the last.
-fn print_quad(out: &mut [u8], at: usize, q: Quad, end: u8) -> usize
-    requires { at + length (quad_text q end) ≤ length out.old }
-    ensures { Puts out.old at (quad_text q end) result out.new }
-{
-    let p = print_two(out, at, q.a, q.b, b'\t');
-    print_two(out, p, q.c, q.d, end)
+impl Printable for u32 {
+    ghost text = { decimal };
+
+    ghost most = { 10 };
+
+    #[tactic(auto, using(crate::proofs::Lengths::ten))]
+    fn print(self, out: &mut [u8], at: usize) -> usize {
+        decimal::print_number(out, at, self)
+    }
+
+    ghost fits = { lit< tt };
 }
 
-fn print_direction_cell(out: &mut [u8], at: usize, d: Direction) -> usize
-    requires { at + length (ended TAB (direction_word d)) ≤ length out.old }
-    ensures { Puts out.old at (ended TAB (direction_word d)) result out.new }
-{
-    let p = words::print_direction(out, at, d);
-    print_byte(out, p, b'\t')
+impl Printable for Direction {
+    ghost text = { direction_word };
+
+    ghost most = { 5 };
+
+    fn print(self, out: &mut [u8], at: usize) -> usize {
+        print_word(out, at, self.word())
+    }
+
+    ghost fits = { lit< tt };
+}
+
+impl Printable for Fate {
+    ghost text = { fate_word };
+
+    ghost most = { 5 };
+
+    fn print(self, out: &mut [u8], at: usize) -> usize {
+        print_word(out, at, self.word())
+    }
+
+    ghost fits = { lit< tt };
+}
+
+impl Printable for Receipt {
+    ghost text = { receipt_word };
+
+    ghost most = { 10 };
+
+    fn print(self, out: &mut [u8], at: usize) -> usize {
+        match self {
+            Receipt::Stored => print_word(out, at, b"stored"),
+            Receipt::Discarded => print_word(out, at, b"discarded"),
+            Receipt::Nothing => print_word(out, at, b"none"),
+            Receipt::Number(n) => n.print(out, at),
+        }
+    }
+
+    ghost fits = { lit< tt };
+}
+
+impl Printable for Outcome {
+    ghost text = { outcome_word };
+
+    ghost most = { 9 };
+
+    fn print(self, out: &mut [u8], at: usize) -> usize {
+        print_word(out, at, self.word())
+    }
+
+    ghost fits = { lit< tt };
 }
 
 // Line one of a run file.
-pub(crate) fn print_run(out: &mut [u8], at: usize, r: Run) -> usize
-    requires { at + length (line_text (run_text r)) ≤ length out.old }
-    ensures { Puts out.old at (line_text (run_text r)) result out.new }
-{
-    let way = r.direction;
-    let q = Quad {
-        a: r.count,
-        b: r.size,
-        c: r.window,
-        d: r.limit,
-    };
-    let p = print_direction_cell(out, at, way);
-    print_quad(out, p, q, b'\n')
-}
+impl Printable for Run {
+    ghost text = { run_text };
 
-// A fate, and the byte that ends its field.
-pub(crate) fn print_fate_cell(out: &mut [u8], at: usize, f: Fate, end: u8) -> usize
-    requires { at + length (ended end (fate_word f)) ≤ length out.old }
-    ensures { Puts out.old at (ended end (fate_word f)) result out.new }
-{
-    let p = words::print_fate(out, at, f);
-    print_byte(out, p, end)
-}
+    ghost most = { 49 };
 
-// A further line of a run file.
-pub(crate) fn print_fate_line(out: &mut [u8], at: usize, f: Fate) -> usize
-    requires { at + length (line_text (fate_word f)) ≤ length out.old }
-    ensures { Puts out.old at (line_text (fate_word f)) result out.new }
-{
-    print_fate_cell(out, at, f, b'\n')
-}
+    #[tactic(auto, using(crate::proofs::Puts::printing))]
+    fn print(self, out: &mut [u8], at: usize) -> usize {
+        let p = print_ended(out, at, self.direction, b'\t');
+        let p = print_ended(out, p, self.count, b'\t');
+        let p = print_ended(out, p, self.size, b'\t');
+        let p = print_ended(out, p, self.window, b'\t');
+        self.limit.print(out, p)
+    }
 
-fn print_receipt_line(out: &mut [u8], at: usize, x: Receipt) -> usize
-    requires { at + length (line_text (receipt_word x)) ≤ length out.old }
-    ensures { Puts out.old at (line_text (receipt_word x)) result out.new }
-{
-    let p = words::print_receipt(out, at, x);
-    print_byte(out, p, b'\n')
-}
-
-// The last two fields of a row.
-fn print_row_end(out: &mut [u8], at: usize, f: Fate, x: Receipt) -> usize
-    requires { at + length (row_end f x) ≤ length out.old }
-    ensures { Puts out.old at (row_end f x) result out.new }
-{
-    let p = print_fate_cell(out, at, f, b'\t');
-    print_receipt_line(out, p, x)
+    ghost fits = { lit< tt };
 }
 
 // A frame's row of a ladder.
-pub(crate) fn print_row(out: &mut [u8], at: usize, r: Row) -> usize
-    requires { at + length (line_text (row_text r)) ≤ length out.old }
-    ensures { Puts out.old at (line_text (row_text r)) result out.new }
-{
-    let fate = r.fate;
-    let receipt = r.receipt;
-    let q = Quad {
-        a: r.frame,
-        b: r.offset,
-        c: r.bytes,
-        d: r.cdp,
-    };
-    let p = print_quad(out, at, q, b'\t');
-    print_row_end(out, p, fate, receipt)
-}
+impl Printable for Row {
+    ghost text = { row_text };
 
-fn print_outcome_cell(out: &mut [u8], at: usize, o: Outcome) -> usize
-    requires { at + length (ended TAB (outcome_word o)) ≤ length out.old }
-    ensures { Puts out.old at (ended TAB (outcome_word o)) result out.new }
-{
-    let p = words::print_outcome(out, at, o);
-    print_byte(out, p, b'\t')
+    ghost most = { 60 };
+
+    #[tactic(auto, using(crate::proofs::Puts::printing))]
+    fn print(self, out: &mut [u8], at: usize) -> usize {
+        let p = print_ended(out, at, self.frame, b'\t');
+        let p = print_ended(out, p, self.offset, b'\t');
+        let p = print_ended(out, p, self.bytes, b'\t');
+        let p = print_ended(out, p, self.cdp, b'\t');
+        let p = print_ended(out, p, self.fate, b'\t');
+        self.receipt.print(out, p)
+    }
+
+    ghost fits = { lit< tt };
 }
 
 // The last line of a ladder.
-pub(crate) fn print_verdict(out: &mut [u8], at: usize, v: Verdict) -> usize
-    requires { at + length (line_text (verdict_text v)) ≤ length out.old }
-    ensures { Puts out.old at (line_text (verdict_text v)) result out.new }
-{
-    let outcome = v.outcome;
-    let q = Quad {
-        a: v.number,
-        b: v.frames,
-        c: v.faults,
-        d: v.filled,
-    };
-    let p = print_outcome_cell(out, at, outcome);
-    print_quad(out, p, q, b'\n')
+impl Printable for Verdict {
+    ghost text = { verdict_text };
+
+    ghost most = { 53 };
+
+    #[tactic(auto, using(crate::proofs::Puts::printing))]
+    fn print(self, out: &mut [u8], at: usize) -> usize {
+        let p = print_ended(out, at, self.outcome, b'\t');
+        let p = print_ended(out, p, self.number, b'\t');
+        let p = print_ended(out, p, self.frames, b'\t');
+        let p = print_ended(out, p, self.faults, b'\t');
+        self.filled.print(out, p)
+    }
+
+    ghost fits = { lit< tt };
 }
 
 // The line that names a line that does not fit.
-pub(crate) fn print_refused(out: &mut [u8], at: usize, n: u32) -> usize
-    requires { at + length (line_text (refused_text n)) ≤ length out.old }
-    ensures { Puts out.old at (line_text (refused_text n)) result out.new }
-{
-    let p = words::print_word(out, at, b"refused\t");
-    print_cell(out, p, n, b'\n')
+impl Printable for Misfit {
+    ghost text = { λ m. refused_text m.line };
+
+    ghost most = { 18 };
+
+    #[tactic(auto, using(crate::proofs::Puts::printing))]
+    fn print(self, out: &mut [u8], at: usize) -> usize {
+        let p = print_word(out, at, b"refused\t");
+        self.line.print(out, p)
+    }
+
+    ghost fits = { lit< tt };
 }

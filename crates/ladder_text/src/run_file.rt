@@ -1,79 +1,50 @@
 // Run files.
 ghost use Rattle.std.specs.Prelude.{◌≡◌, ◌≤◌, length, drop};
 ghost use Rattle.ladder_text.specs.Text.{lines};
-ghost use Rattle.ladder_text.specs.RunFile.{MOST-BYTES, is_fate, misfit, further_lines, file_of, fate_or, next_fate};
+ghost use Rattle.ladder_text.specs.RunFile.{MOST-BYTES, misfit, file_of, next_fate};
 
-use crate::types::{Fate, NextFate, ReadFate, ReadRun, Run, RunFile};
+use crate::types::{Fate, Misfit, NextFate, RunFile};
 use crate::{rows, text, words};
 
-fn is_fate(f: ReadFate) -> bool
-    ensures { result ≡ is_fate f }
-{
-    match f {
-        ReadFate::Is(_) => true,
-        ReadFate::Misfit => false,
-    }
-}
-
-// The number of the first line from place `from` on that is no fate, counted from 2; 0 where each is one.
-fn first_misfit(s: &[u8], from: usize) -> u32
+// The number of the first line from place `from` on that is no fate, counted from 2.
+#[tactic(auto, using(crate::proofs::FileSteps::misfit_at, crate::proofs::FileSteps::lines_end), unfolding(crate::specs::Pick::pick))]
+fn first_misfit(s: &[u8], from: usize) -> Option<u32>
     requires { length s.now ≤ MOST-BYTES }
     ensures { result ≡ misfit 2 (lines (drop from s.now)) }
 {
     let mut at = from;
     let mut n: u32 = 2;
+    // std's `split` is no plainer: behind a last line feed it gives one more, empty line.
     while at < s.len() {
         let l = text::line(s, at);
-        if !is_fate(words::read_fate(l)) {
-            return n;
+        if words::read_fate(l).is_none() {
+            return Some(n);
         }
-        at = at + l.len() + 1;
+        at += l.len() + 1;
         n += 1;
     }
-    0
-}
-
-fn further_lines(run: Run, fates: usize, n: u32) -> RunFile
-    ensures { result ≡ further_lines run fates n }
-{
-    if n == 0 {
-        return RunFile::Run {
-            run: run,
-            fates: fates,
-        };
-    }
-    RunFile::Refused(n)
+    None
 }
 
 // A whole run file, any bytes.
-pub fn read_run_file(s: &[u8]) -> RunFile
+#[tactic(auto, using(crate::proofs::FileSteps::too_long, crate::proofs::FileSteps::of_lines, std::proofs::lemmas::Result::err_from_is_err_and))]
+pub fn read_run_file(s: &[u8]) -> Result<RunFile, Misfit>
     ensures { result ≡ file_of s.now }
 {
     if 65_536 < s.len() {
-        return RunFile::Refused(0);
-    }
-    if s.len() == 0 {
-        return RunFile::Refused(1);
+        return Err(Misfit { line: 0 });
     }
     let l = text::line(s, 0);
     let fates = l.len() + 1;
-    let ReadRun::Is(run) = rows::read_run(l) else {
-        return RunFile::Refused(1);
-    };
-    let n = first_misfit(s, fates);
-    further_lines(run, fates, n)
-}
-
-fn fate_or(f: ReadFate) -> Fate
-    ensures { result ≡ fate_or f }
-{
-    match f {
-        ReadFate::Is(x) => x,
-        ReadFate::Misfit => Fate::Ok,
+    let run = rows::read_run(l).ok_or(Misfit { line: 1 })?;
+    match first_misfit(s, fates) {
+        Some(line) => Err(Misfit { line }),
+        None => Ok(RunFile { run, fates }),
     }
 }
 
 // The fate at place `at`; past the list, `ok`.
+#[tactic(auto, unfolding(crate::specs::RunFile::next_fate, crate::specs::Pick::pick))]
 pub fn next_fate(s: &[u8], at: usize) -> NextFate
     ensures { result ≡ next_fate s.now at }
 {
@@ -84,9 +55,8 @@ pub fn next_fate(s: &[u8], at: usize) -> NextFate
         };
     }
     let l = text::line(s, at);
-    let fate = fate_or(words::read_fate(l));
     NextFate {
-        fate: fate,
+        fate: words::read_fate(l).unwrap_or(Fate::Ok),
         next: at + l.len() + 1,
     }
 }

@@ -1,34 +1,23 @@
 // Lines and fields.
-ghost use Rattle.std.specs.Prelude.{◌≡◌, ◌+◌, ◌≤◌, length, drop};
-ghost use Rattle.ladder_text.specs.Text.{fields, before};
+ghost use Rattle.std.specs.Prelude.{◌≡◌, ◌==◌, length, position};
+ghost use Rattle.ladder_text.specs.Text.{fields};
 ghost use Rattle.ladder_text.specs.Lent.{Shows, part_in, line_in, field_start, field_in};
 
-// The place of the first c from `at` on; the end where there is none.
-fn find(s: &[u8], at: usize, c: u8) -> usize
-    requires { at ≤ length s.now }
-    ensures within { result ≤ length s.now }
-    ensures place { result ≡ at + length (before c (drop at s.now)) }
+// The index of the first c.
+fn find(s: &[u8], c: u8) -> Option<usize>
+    ensures { result ≡ position (λ x. x == c) s.now }
 {
-    let mut i = at;
-    while i < s.len() {
-        if s[i] == c {
-            return i;
-        }
-        i += 1;
-    }
-    i
+    s.iter().position(|b| *b == c)
 }
 
 // The bytes of s from `at`, or from the end where that is beyond, to the first c or to the end.
+#[tactic(auto, using(crate::proofs::Cut::part_within, crate::proofs::Cut::part_is))]
 fn part(s: &[u8], at: usize, c: u8) -> &[u8]
     ensures { Shows result s.entry (part_in c s.now at) }
 {
-    let n = s.len();
-    if n <= at {
-        return &s[n..n];
-    }
-    let e = find(s, at, c);
-    &s[at..e]
+    let rest = &s[at.min(s.len())..];
+    let end = find(rest, c).unwrap_or(rest.len());
+    &rest[..end]
 }
 
 // The line that starts at `at`, without its line feed; the next starts one byte behind it.
@@ -39,22 +28,22 @@ pub fn line(s: &[u8], at: usize) -> &[u8]
 }
 
 // Where field i of a line starts, counted from 0; the end where there is none.
+#[tactic(auto, using(crate::proofs::Cut::passed, crate::proofs::Cut::none_left, crate::proofs::Cut::arrived))]
 fn field_start(l: &[u8], i: usize) -> usize
     ensures { result ≡ field_start l.now i }
 {
     let mut at = 0;
-    let mut left = i;
-    while 0 < left {
-        at = at + part(l, at, b'\t').len() + 1;
+    for _tab in 0..i {
+        at += part(l, at, b'\t').len() + 1;
         if l.len() < at {
             return l.len();
         }
-        left -= 1;
     }
     at
 }
 
 // Field i of a line, counted from 0, without its tab; empty where there is none.
+#[tactic(auto, using(crate::proofs::Cut::field_there, crate::proofs::Cut::start_within))]
 pub fn field(l: &[u8], i: usize) -> &[u8]
     ensures { Shows result l.entry (field_in l.now i) }
 {
@@ -63,16 +52,9 @@ pub fn field(l: &[u8], i: usize) -> &[u8]
 }
 
 // How many fields a line has: one more than its tabs.
+#[tactic(auto, using(crate::proofs::Cut::count_fields))]
 pub fn field_count(l: &[u8]) -> usize
     ensures { result ≡ length (fields l.now) }
 {
-    let mut n = 1;
-    let mut i = 0;
-    while i < l.len() {
-        if l[i] == b'\t' {
-            n += 1;
-        }
-        i += 1;
-    }
-    n
+    l.iter().filter(|b| **b == b'\t').count() + 1
 }

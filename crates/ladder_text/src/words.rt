@@ -1,171 +1,145 @@
 // Words, read and printed.
-ghost use Rattle.std.specs.Prelude.{◌≡◌, ◌+◌, ◌≤◌, length};
-ghost use Rattle.ladder_text.specs.Place.{Puts};
-ghost use Rattle.ladder_text.specs.Words.{same, direction_word, direction_of, fate_number, fate_at, fate_word, fate_of, receipt_word, receipt_of, numbered, outcome_word, outcome_of};
+ghost use Rattle.std.specs.Prelude.{◌≡◌, ℕ, List};
+ghost use Rattle.ladder_text.specs.Words.{named, all_directions, all_fates, all_outcomes, direction_word, direction_of, fate_number, fate_at, fate_word, fate_of, receipt_of, outcome_word, outcome_of};
 
 use crate::decimal;
-use crate::types::{
-    Direction, Fate, Number, Outcome, ReadDirection, ReadFate, ReadOutcome, ReadReceipt, Receipt,
-};
+use crate::types::{Direction, Fate, Outcome, Receipt};
 
-// Whether s is the word w.
-pub(crate) fn is(s: &[u8], w: &[u8]) -> bool
-    ensures { result ≡ same s.now w.now }
-{
-    s == w
+// A value that a word stands for.
+pub(crate) trait Word: Copy + 'static {
+    ghost word: { Self → List ℕ };
+
+    ghost all: { List Self };
+
+    fn all() -> &'static [Self]
+        ensures { result.now ≡ all };
+
+    fn word(self) -> &'static [u8]
+        ensures { result.now ≡ word self };
 }
 
-// Prints the word w at `at`; answers the place behind it.
-pub(crate) fn print_word(out: &mut [u8], at: usize, w: &[u8]) -> usize
-    requires { at + length w.now ≤ length out.old }
-    ensures { Puts out.old at w.now result out.new }
+// The value whose word is s.
+fn named<W: Word>(s: &[u8]) -> Option<W>
+    ensures { result ≡ named W.word W.all s.now }
 {
-    let end = at + w.len();
-    out[at..end].copy_from_slice(w);
-    end
+    W::all().iter().copied().find(|w| s == w.word())
 }
 
-// The fate that s names, or that it does not fit.
-pub fn read_fate(s: &[u8]) -> ReadFate
-    ensures { result ≡ fate_of s.now }
-{
-    if is(s, b"ok") {
-        return ReadFate::Is(Fate::Ok);
+impl Word for Direction {
+    ghost word = { direction_word };
+
+    ghost all = { all_directions };
+
+    fn all() -> &'static [Direction] {
+        &[Direction::Read, Direction::Write]
     }
-    if is(s, b"noack") {
-        return ReadFate::Is(Fate::Noack);
+
+    fn word(self) -> &'static [u8] {
+        match self {
+            Direction::Read => b"read",
+            Direction::Write => b"write",
+        }
     }
-    if is(s, b"bad") {
-        return ReadFate::Is(Fate::Bad);
-    }
-    if is(s, b"nonak") {
-        return ReadFate::Is(Fate::Nonak);
-    }
-    if is(s, b"lost") {
-        return ReadFate::Is(Fate::Lost);
-    }
-    ReadFate::Misfit
 }
 
-pub(crate) fn print_fate(out: &mut [u8], at: usize, f: Fate) -> usize
-    requires { at + length (fate_word f) ≤ length out.old }
-    ensures { Puts out.old at (fate_word f) result out.new }
-{
-    match f {
-        Fate::Ok => print_word(out, at, b"ok"),
-        Fate::Noack => print_word(out, at, b"noack"),
-        Fate::Bad => print_word(out, at, b"bad"),
-        Fate::Nonak => print_word(out, at, b"nonak"),
-        Fate::Lost => print_word(out, at, b"lost"),
+impl Word for Fate {
+    ghost word = { fate_word };
+
+    ghost all = { all_fates };
+
+    fn all() -> &'static [Fate] {
+        &[Fate::Ok, Fate::Noack, Fate::Bad, Fate::Nonak, Fate::Lost]
+    }
+
+    fn word(self) -> &'static [u8] {
+        match self {
+            Fate::Ok => b"ok",
+            Fate::Noack => b"noack",
+            Fate::Bad => b"bad",
+            Fate::Nonak => b"nonak",
+            Fate::Lost => b"lost",
+        }
+    }
+}
+
+impl Word for Outcome {
+    ghost word = { outcome_word };
+
+    ghost all = { all_outcomes };
+
+    fn all() -> &'static [Outcome] {
+        &[Outcome::Delivered, Outcome::Failed]
+    }
+
+    fn word(self) -> &'static [u8] {
+        match self {
+            Outcome::Delivered => b"delivered",
+            Outcome::Failed => b"failed",
+        }
     }
 }
 
 // The fates in their order, numbered from 0.
-pub fn fate_number(f: Fate) -> u8
-    ensures { result ≡ fate_number f }
-{
-    match f {
-        Fate::Ok => 0,
-        Fate::Noack => 1,
-        Fate::Bad => 2,
-        Fate::Nonak => 3,
-        Fate::Lost => 4,
+impl From<Fate> for u8 {
+    ghost from_gives = { λ f n. n ≡ fate_number f };
+
+    fn from(f: Fate) -> u8 {
+        f as u8
     }
 }
 
 // The fate of a number; `lost` from 4 on.
-pub fn fate_at(n: u8) -> Fate
-    ensures { result ≡ fate_at n }
-{
-    match n {
-        0 => Fate::Ok,
-        1 => Fate::Noack,
-        2 => Fate::Bad,
-        3 => Fate::Nonak,
-        _ => Fate::Lost,
+impl From<u8> for Fate {
+    ghost from_gives = { λ n f. f ≡ fate_at n };
+
+    fn from(n: u8) -> Fate {
+        match n {
+            0 => Fate::Ok,
+            1 => Fate::Noack,
+            2 => Fate::Bad,
+            3 => Fate::Nonak,
+            _ => Fate::Lost,
+        }
     }
 }
 
-// The direction that s names, or that it does not fit.
-pub fn read_direction(s: &[u8]) -> ReadDirection
+// The direction that s names.
+#[tactic(auto, unfolding(crate::specs::Words::direction_of))]
+pub fn read_direction(s: &[u8]) -> Option<Direction>
     ensures { result ≡ direction_of s.now }
 {
-    if is(s, b"read") {
-        return ReadDirection::Is(Direction::Read);
-    }
-    if is(s, b"write") {
-        return ReadDirection::Is(Direction::Write);
-    }
-    ReadDirection::Misfit
+    named(s)
 }
 
-pub(crate) fn print_direction(out: &mut [u8], at: usize, d: Direction) -> usize
-    requires { at + length (direction_word d) ≤ length out.old }
-    ensures { Puts out.old at (direction_word d) result out.new }
+// The fate that s names.
+#[tactic(auto, unfolding(crate::specs::Words::fate_of))]
+pub fn read_fate(s: &[u8]) -> Option<Fate>
+    ensures { result ≡ fate_of s.now }
 {
-    match d {
-        Direction::Read => print_word(out, at, b"read"),
-        Direction::Write => print_word(out, at, b"write"),
-    }
+    named(s)
 }
 
-// The number that the receiver gave.
-fn given(n: Number) -> ReadReceipt
-    ensures { result ≡ numbered n }
-{
-    match n {
-        Number::Value(v) => ReadReceipt::Is(Receipt::Number(v)),
-        Number::Misfit => ReadReceipt::Misfit,
-    }
-}
-
-// The word or the number that s is, or that it does not fit.
-pub fn read_receipt(s: &[u8]) -> ReadReceipt
+// The word or the number that s is.
+#[tactic(auto, unfolding(crate::specs::Words::receipt_of))]
+pub fn read_receipt(s: &[u8]) -> Option<Receipt>
     ensures { result ≡ receipt_of s.now }
 {
-    if is(s, b"stored") {
-        return ReadReceipt::Is(Receipt::Stored);
+    if s == b"stored".as_slice() {
+        return Some(Receipt::Stored);
     }
-    if is(s, b"discarded") {
-        return ReadReceipt::Is(Receipt::Discarded);
+    if s == b"discarded".as_slice() {
+        return Some(Receipt::Discarded);
     }
-    if is(s, b"none") {
-        return ReadReceipt::Is(Receipt::Nothing);
+    if s == b"none".as_slice() {
+        return Some(Receipt::Nothing);
     }
-    given(decimal::read_number(s, 4_294_967_295))
+    decimal::read_number(s, u32::MAX).map(Receipt::Number)
 }
 
-pub(crate) fn print_receipt(out: &mut [u8], at: usize, x: Receipt) -> usize
-    requires { at + length (receipt_word x) ≤ length out.old }
-    ensures { Puts out.old at (receipt_word x) result out.new }
-{
-    match x {
-        Receipt::Stored => print_word(out, at, b"stored"),
-        Receipt::Discarded => print_word(out, at, b"discarded"),
-        Receipt::Nothing => print_word(out, at, b"none"),
-        Receipt::Number(n) => decimal::print_number(out, at, n),
-    }
-}
-
-// The sender's verdict that s names, or that it does not fit.
-pub fn read_outcome(s: &[u8]) -> ReadOutcome
+// The sender's verdict that s names.
+#[tactic(auto, unfolding(crate::specs::Words::outcome_of))]
+pub fn read_outcome(s: &[u8]) -> Option<Outcome>
     ensures { result ≡ outcome_of s.now }
 {
-    if is(s, b"delivered") {
-        return ReadOutcome::Is(Outcome::Delivered);
-    }
-    if is(s, b"failed") {
-        return ReadOutcome::Is(Outcome::Failed);
-    }
-    ReadOutcome::Misfit
-}
-
-pub(crate) fn print_outcome(out: &mut [u8], at: usize, o: Outcome) -> usize
-    requires { at + length (outcome_word o) ≤ length out.old }
-    ensures { Puts out.old at (outcome_word o) result out.new }
-{
-    match o {
-        Outcome::Delivered => print_word(out, at, b"delivered"),
-        Outcome::Failed => print_word(out, at, b"failed"),
-    }
+    named(s)
 }
