@@ -8,6 +8,7 @@ use native.Mathlib.Omega.{arith}
 use lib.Dec.{ltb}
 use lib.ListN.{length, get_or-eq_default}
 use borrow.Author.Tests.{ltb-true, ltb-false}
+use Rattle.std.specs.Prelude.{Option, Some, None}
 use Rattle.status.proofs.OpenedCall.{differ}
 use Rattle.status.specs.Pick.{pick}
 use Rattle.status.specs.Answer.{Left}
@@ -26,7 +27,6 @@ use Rattle.ladder_run.specs.Fates.{fate_of}
 use Rattle.ladder_run.specs.Round.{report_of, first_of, noted_of, misses_of, confirmed_by, confirmations_of, timed_out, opened_of, round_of, closed_of}
 use Rattle.ladder_run.specs.declared.types.Sending.{Sending}
 use Rattle.ladder_run.specs.declared.types.Report.{Report}
-use Rattle.ladder_run.specs.declared.types.Report.TheVariants.{Nothing}
 use Rattle.ladder_run.specs.declared.types.Ladder.{Ladder}
 use Rattle.ladder_run.specs.declared.types.Confirming.{Confirming}
 use Rattle.ladder_claim.proofs.SendingCore.{SendsAs, told_as}
@@ -39,8 +39,8 @@ past fs i h = rw (get_or-eq_default fs 0 h) refl
 
 module _ (C : Course) (fs : List ℕ) (lists : length fs ≡ C.listed) (n before : ℕ) (window : n ≤ before + C.t.window) where
   -- what a round leaves: a report, or the start of the next round
-  pub data Over (x : Sending) (q : Report) : Type 0 where
-    again : Going C x n n → q ≡ Nothing → Over x q
+  pub data Over (x : Sending) (q : Option Report) : Type 0 where
+    again : Going C x n n → q ≡ None → Over x q
     done : Reports C q n → Over x q
 
   -- k answers still to come, z of those before them missing; a fault so far means that listed fates were left when the round began
@@ -52,7 +52,7 @@ module _ (C : Course) (fs : List ℕ) (lists : length fs ≡ C.listed) (n before
     pub sends : SendsAs x.sending s
     pub on : On C s n j m
     pub bound : n + enough C ≤ most C + j
-    pub nothing : x.report ≡ Nothing
+    pub nothing : x.report ≡ None
     pub owed : s.unanswered ≡ k + z
     pub some : 1 ≤ k + z
     pub missing : ((x.missing ≡ false) × (z ≡ 0)) ⊎ ((x.missing ≡ true) × (1 ≤ z))

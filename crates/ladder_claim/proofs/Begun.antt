@@ -55,7 +55,8 @@ use Rattle.ladder_text.proofs.Choose.{each}
 use Rattle.ladder_text.specs.declared.types.Run.{Run}
 use Rattle.ladder_text.specs.declared.types.Direction.{Direction}
 use Rattle.ladder_text.specs.declared.types.Direction.TheVariants.{Read, Write}
-use Rattle.ladder_run.specs.Row.{area, handed}
+use Rattle.ladder_run.specs.Row.{area}
+use Rattle.ladder_run.proofs.Handed.{handed_length}
 use Rattle.ladder_run.specs.Setup.{INITIATOR, TARGET, TAG, transfer_of, fresh, exchanged, set_up_of}
 use Rattle.ladder_run.specs.declared.types.Sending.TheVariants as sending
 use Rattle.ladder_run.specs.declared.types.Receiving.TheVariants as receiving
@@ -248,7 +249,7 @@ module _ (r : Run) where
     exchanges : exchanged (initiator.start_of here) (target.start_of there) ≡ write_ladder
     unfolding exchanged
     exchanges =
-        (λ i. fresh (sending.Write (write_arrival_of (initiator.start_of here) (xfer_rdy_sent (target.start_of there) area (handed (hands_out i).says))).left) (receiving.Write (ack_of (hands_out i).left).left))
+        (λ i. fresh (sending.Write (write_arrival_of (initiator.start_of here) (xfer_rdy_sent (target.start_of there) area (handed_length (hands_out i).says))).left) (receiving.Write (ack_of (hands_out i).left).left))
         ∙ (λ i. fresh (sending.Write (takes_first i).left) (receiving.Write (acks i).left))
 
     pub write_sets_up : r.direction ≡ Write → set_up_of r ≡ Result.value write_ladder

@@ -5,16 +5,17 @@ use mathlib.Core.Logic.{◌⊎◌, inl, inr}
 use mathlib.Core.Path.{◌≡◌, refl, sym, subst, ◌∙◌}
 use native.Mathlib.Omega.{arith}
 use lib.ListN.{length}
+use Rattle.std.specs.Prelude.{Option, Some, None}
 use Rattle.link.specs.Ports.{Ports}
 use Rattle.link.specs.World.{World, Event}
 use Rattle.ladder_text.specs.declared.types.Row.{Row}
 use Rattle.ladder_text.specs.declared.types.Verdict.{Verdict}
-use Rattle.ladder_run.specs.Row.{ROWS-MOST, area, Sent, out_of}
+use Rattle.ladder_run.specs.Row.{NextLine, ROWS-MOST, area, Sent, out_of}
 use Rattle.ladder_run.specs.Round.{closed_of}
-use Rattle.ladder_run.specs.Line.{NextLine, begins, firstly, line_of}
+use Rattle.ladder_run.specs.Line.{begins, firstly, line_of}
 use Rattle.ladder_run.specs.Whole.{Whole, onward, climb}
 use Rattle.ladder_run.specs.declared.types.Sending.{Sending}
-use Rattle.ladder_run.specs.declared.types.Due.{Due}
+use Rattle.ladder_run.specs.declared.types.Line.{Line}
 use Rattle.ladder_run.specs.declared.types.Line.TheVariants as line
 use Rattle.ladder_run.specs.declared.types.Ladder.{Ladder}
 use Rattle.ladder_claim.specs.Claim.{on_link}
@@ -36,7 +37,7 @@ module _ {P : Ports} (E : Embeds P) (start : World P) (end : ℕ) (fills : Fills
   On l b rows last = Stands E start end fs d l b rows last
 
   -- a frame asked for
-  asked_stands : (l : Ladder) (b : List ℕ) (rows : List Row) → Live C l → On l b rows [] → let x = out_of l fs d b in On x.ladder x.received (with_due x.due rows) (wait_due x.due)
+  asked_stands : (l : Ladder) (b : List ℕ) (rows : List Row) → Live C l → On l b rows [] → let x = out_of l fs d b in On x.ladder x.received (with_due x.line rows) (wait_due x.line)
   asked_stands l b rows v g =
       let w = v.going in
       out_stands E start end fs d l b rows g v.nothing
@@ -45,18 +46,18 @@ module _ {P : Ports} (E : Embeds P) (start : World P) (end : ℕ) (fills : Fills
       wait_idle w.s d area (lent C fs d sent l v b) w.on.live q.0 q.1 E g.s (subst (λ (x : Sending). SendsAs x w.s) g.sending w.sends) g.r b g.confirmations g.tally g.handed (on_link l.report))
 
   -- the line x behind these rows, of a ladder that had handed out n frames
-  data Lined (n : ℕ) (rows : List Row) (x : NextLine) : Type 0 where
+  data Lined (n : ℕ) (rows : List Row) (x : NextLine Line) : Type 0 where
     row : (r : Row) → x.line ≡ line.Row r → Live C x.ladder → x.ladder.frames ≡ n + 1 → On x.ladder x.received (rows ++ (r ∷ [])) [] → Lined n rows x
     verdict : (v : Verdict) → x.line ≡ line.Verdict v → x.ladder.before ≡ x.ladder.frames → On x.ladder x.received rows [] → Lined n rows x
 
-  abbrev After : List Row → Sent → Due → Type 0
+  abbrev After : List Row → Sent → Option Row → Type 0
   After rows x t = On x.ladder x.received (with_due t rows) (wait_due t)
 
   -- a round is over: the first row of the next one, or the verdict
   begun : (l : Ladder) (b : List ℕ) (rows : List Row) → (Live C l × (l.before ≡ l.frames)) ⊎ Done C l → l.before ≡ l.frames → On l b rows [] → Lined l.frames rows (begins fs (out_of l fs d b))
   begun l b rows (inl v) same g = go (out_of l fs d b) (outs C fs d sent l v.0 b) (asked_stands l b rows v.0 g)
     where
-      go : (x : Sent) → Asked C fs d sent l x → After rows x x.due → Lined l.frames rows (begins fs x)
+      go : (x : Sent) → Asked C fs d sent l x → After rows x x.line → Lined l.frames rows (begins fs x)
       go x (Asked.row r e w f) a = let h = subst (After rows x) e a in rw e (Lined.row r refl w f h)
       go x (Asked.none e w f u h) a = absurd (omega (arith, v.1))
   begun l b rows (inr q) same g = subst (λ (x : Sent). Lined l.frames rows (begins fs x)) (sym (over l fs d b q.reported)) (Lined.verdict _ refl same g)
@@ -70,7 +71,7 @@ module _ {P : Ports} (E : Embeds P) (start : World P) (end : ℕ) (fills : Fills
   unfolding line_of
   lines l b rows v g = go (out_of l fs d b) (outs C fs d sent l v b) (asked_stands l b rows v g)
     where
-      go : (x : Sent) → Asked C fs d sent l x → After rows x x.due → Lined l.frames rows (firstly fs d x.ladder x.due x.received)
+      go : (x : Sent) → Asked C fs d sent l x → After rows x x.line → Lined l.frames rows (firstly fs d x.ladder x.line x.received)
       go x (Asked.row r e w f) a = let h = subst (After rows x) e a in rw e (Lined.row r refl w f h)
       go x (Asked.none e w f u h) a =
           let k : x.ladder.before < x.ladder.frames = omega arith in
@@ -91,7 +92,7 @@ module _ {P : Ports} (E : Embeds P) (start : World P) (end : ℕ) (fills : Fills
   climb_stands (suc k) l b rows v h g = go (λ m c rs w n a. climb_stands k m c rs w n a) (line_of l fs d b) (lines l b rows v g)
     where
       go : ((m : Ladder) (c : List ℕ) (rs : List Row) → Live C m → ROWS-MOST < k + m.frames → On m c rs [] → AtLast rs (climb k fs d m c)) →
-          (x : NextLine) → Lined l.frames rows x → AtLast rows (onward x.line x.ladder x.received (λ m c. climb k fs d m c))
+          (x : NextLine Line) → Lined l.frames rows x → AtLast rows (onward x.line x.ladder x.received (λ m c. climb k fs d m c))
       go on x (Lined.row r e w f a) =
           let c = on x.ladder x.received (rows ++ (r ∷ [])) w (omega arith) a in
           rw e (record { over = c.over; stands = subst (λ (rs : List Row). On (climb k fs d x.ladder x.received).last (climb k fs d x.ladder x.received).received rs []) (append_assoc rows (r ∷ []) _) c.stands })

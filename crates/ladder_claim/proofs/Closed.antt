@@ -5,6 +5,7 @@ use mathlib.Core.Bool.{Bool, true, false, ◌||◌, or-true, or-false, false≢t
 use mathlib.Core.Path.{◌≡◌, refl, sym, ap, subst, subst₂, ◌∙◌}
 use native.Mathlib.Omega.{arith}
 use borrow.Author.Tests.{ne_eqb}
+use Rattle.std.specs.Prelude.{Option, Some, None}
 use Rattle.status.specs.Pick.{pick}
 use Rattle.status.specs.Answer.{Said, view, Left}
 use Rattle.link.specs.Ports.{Signal, Ports}
@@ -21,7 +22,7 @@ use Rattle.ladder_run.specs.Round.{reported, report_of, first_of, noted_of, miss
 use Rattle.ladder_run.specs.declared.types.Sending.{Sending}
 use Rattle.ladder_run.specs.declared.types.Receiving.{Receiving}
 use Rattle.ladder_run.specs.declared.types.Report.{Report}
-use Rattle.ladder_run.specs.declared.types.Report.TheVariants.{Nothing, Delivered, Failed}
+use Rattle.ladder_run.specs.declared.types.Report.TheVariants.{Delivered, Failed}
 use Rattle.ladder_run.specs.declared.types.Confirming.{Confirming}
 use Rattle.ladder_run.specs.declared.types.Shown.{Shown}
 use Rattle.ladder_run.specs.declared.types.Ladder.{Ladder}
@@ -34,19 +35,19 @@ use Rattle.ladder_claim.proofs.Owed.{joined, lost_by, owed_by, fates_in, answers
 use Rattle.ladder_claim.proofs.Stands.{at, shown_all, Fills, Filled, Stands}
 
 -- the ladder notes a report as the link does
-pub noted_is : (q : Report) (a : Said) → noted a (on_link q) ≡ on_link (first_of q (report_of a))
+pub noted_is : (q : Option Report) (a : Said) → noted a (on_link q) ≡ on_link (first_of q (report_of a))
 noted_is q a = go q (view a).report
   where
-    go : (q : Report) (new : link.Report) → next new (on_link q) ≡ on_link (first_of q (reported new))
-    go Nothing link.Report.none = refl
-    go Nothing (link.Report.delivered n) = refl
-    go Nothing (link.Report.failed f n) = refl
-    go (Delivered m) link.Report.none = refl
-    go (Delivered m) (link.Report.delivered n) = refl
-    go (Delivered m) (link.Report.failed f n) = refl
-    go (Failed g m) link.Report.none = refl
-    go (Failed g m) (link.Report.delivered n) = refl
-    go (Failed g m) (link.Report.failed f n) = refl
+    go : (q : Option Report) (new : link.Report) → next new (on_link q) ≡ on_link (first_of q (reported new))
+    go None link.Report.none = refl
+    go None (link.Report.delivered n) = refl
+    go None (link.Report.failed f n) = refl
+    go (Some (Delivered m)) link.Report.none = refl
+    go (Some (Delivered m)) (link.Report.delivered n) = refl
+    go (Some (Delivered m)) (link.Report.failed f n) = refl
+    go (Some (Failed g m)) link.Report.none = refl
+    go (Some (Failed g m)) (link.Report.delivered n) = refl
+    go (Some (Failed g m)) (link.Report.failed f n) = refl
 
 -- a timeout after a loss is not early
 not_early : (t : Tally) → 1 ≤ t.lost → timeout_fault t ≡ 0
@@ -87,7 +88,7 @@ module _ {P : Ports} (E : Embeds P) (start : World P) (end : ℕ) (fills : Fills
     open k use {s, handed, sending, reached, filled, rows}
 
     -- the port is told g, by an event that leaves these answers and this tally
-    tells : (g : Signal) (es' : List (Event P)) (confirmations' : List Confirmation) (t' : Tally) → (x.report ≡ Nothing → (n : ℕ) → noted (P.signal g s).says (on_link x.report) ≡ link.Report.delivered n → filled_of receiver ≡ end) →
+    tells : (g : Signal) (es' : List (Event P)) (confirmations' : List Confirmation) (t' : Tally) → (x.report ≡ None → (n : ℕ) → noted (P.signal g s).says (on_link x.report) ≡ link.Report.delivered n → filled_of receiver ≡ end) →
         Reaches start es' (at (P.signal g s).left r d b confirmations' t' handed (noted (P.signal g s).says (on_link x.report))) → Telling es' confirmations' t' (noted_of x (signalled_of g x.sending))
     tells g es' confirmations' t' law go =
         record {
@@ -105,10 +106,10 @@ module _ {P : Ports} (E : Embeds P) (start : World P) (end : ℕ) (fills : Fills
         same : noted (P.signal g s).says (on_link x.report) ≡ on_link (first_of x.report (report_of (signalled_of g x.sending).says))
         same = noted_is x.report (P.signal g s).says ∙ ap (λ (v : Left Sending). on_link (first_of x.report (report_of v.says))) (sym told)
 
-        fill : (q : Report) → x.report ≡ q → Filled (first_of x.report (report_of (signalled_of g x.sending).says)) (filled_of receiver) end
-        fill Nothing e n f = law e n (same ∙ ap on_link f)
-        fill (Delivered m) e n f = filled n (e ∙ ap (λ (q : Report). first_of q (report_of (signalled_of g x.sending).says)) (sym e) ∙ f)
-        fill (Failed c m) e n f = filled n (e ∙ ap (λ (q : Report). first_of q (report_of (signalled_of g x.sending).says)) (sym e) ∙ f)
+        fill : (q : Option Report) → x.report ≡ q → Filled (first_of x.report (report_of (signalled_of g x.sending).says)) (filled_of receiver) end
+        fill None e n f = law e n (same ∙ ap on_link f)
+        fill (Some (Delivered m)) e n f = filled n (e ∙ ap (λ (q : Option Report). first_of q (report_of (signalled_of g x.sending).says)) (sym e) ∙ f)
+        fill (Some (Failed c m)) e n f = filled n (e ∙ ap (λ (q : Option Report). first_of q (report_of (signalled_of g x.sending).says)) (sym e) ∙ f)
 
   -- the first answer reaches the port
   answer_comes : {es : List (Event P)} (a : Confirmation) (confirmations : List Confirmation) {lost owed : ℕ} (x : Confirming) → Counting es (a ∷ confirmations) lost owed x → Counting (es ++ (Event.confirmed ∷ [])) confirmations lost owed (noted_of x (signalled_of (signal_of a) x.sending))

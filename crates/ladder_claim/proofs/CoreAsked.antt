@@ -26,10 +26,6 @@ pub data Asking (s : Sender) (d : List ℕ) : Left Sender → Type 0 where
 
 module _ (s : Sender) (d out : List ℕ) (l : lent_of s (length d) ≡ true) where
   -- 24 bytes of header, at most 1,024 of data
-  pub frame_least : 24 ≤ length (frame_of s d)
-  unfolding frame_of
-  frame_least = omega (arith, encode_length (data_header s) (part_of s d))
-
   pub frame_most : length (frame_of s d) ≤ 1_048
   unfolding frame_of
   frame_most =

@@ -2,11 +2,11 @@
 use Prim.Native.Nat.{ℕ, ◌+◌, ◌≤◌}
 use mathlib.Core.Bool.{false}
 use mathlib.Core.Path.{◌≡◌}
+use Rattle.std.specs.Prelude.{Option, Some, None}
 use Rattle.sender_steps.specs.declared.types.Sender.{Sender}
 use Rattle.ladder_run.specs.Row.{silent}
 use Rattle.ladder_run.specs.declared.types.Sending.{Sending}
 use Rattle.ladder_run.specs.declared.types.Report.{Report}
-use Rattle.ladder_run.specs.declared.types.Report.TheVariants.{Nothing}
 use Rattle.ladder_run.specs.declared.types.Ladder.{Ladder}
 use Rattle.ladder_claim.specs.Claim.{Numbered, frames_in}
 use Rattle.ladder_claim.proofs.SendingCore.{SendsAs}
@@ -28,10 +28,10 @@ module _ (C : Course) where
 
   pub record Live (l : Ladder) : Type 0 where
     pub going : Going l.sending l.frames l.before
-    pub nothing : l.report ≡ Nothing
+    pub nothing : l.report ≡ None
 
   -- a report that counts n frames
-  pub record Reports (q : Report) (n : ℕ) : Type 0 where
+  pub record Reports (q : Option Report) (n : ℕ) : Type 0 where
     pub reported : silent q ≡ false
     pub number : Numbered q
     pub counted : frames_in q ≡ n

@@ -7,6 +7,7 @@ use native.Mathlib.Omega.{arith}
 use lib.Dec.{leb, ltb, eqb}
 use lib.ListN.{length, take, length-replicate}
 use borrow.Author.Tests.{le-leb, ltb-false, eqb-true, eqb-false, ne_eqb}
+use Rattle.std.specs.Prelude.{Option, Some, None}
 use Rattle.status.specs.Pick.{pick}
 use Rattle.status.specs.Answer.{Left}
 use Rattle.transfer.specs.declared.Transfer.{Transfer}
@@ -19,21 +20,20 @@ use Rattle.sender_steps.proofs.Due.{Due}
 use Rattle.link.specs.Ports.{Called}
 use Rattle.ladder_text.specs.declared.types.Row.{Row}
 use Rattle.ladder_run.specs.Ends.{ask_of, past_of}
-use Rattle.ladder_run.specs.Row.{area, silent, ROWS-MOST, COUNT-MOST, open_of, Sent, out_by, nothing_of, sent_of as met, asked_by, out_of}
+use Rattle.ladder_run.specs.Row.{area, silent, ROWS-MOST, COUNT-MOST, open_of, Sent, next_line_by, nothing_of, sent_of as met, asked_by, out_of}
 use Rattle.ladder_run.specs.declared.types.Sending.{Sending}
 use Rattle.ladder_run.specs.declared.types.Ladder.{Ladder}
-use Rattle.ladder_run.specs.declared.types.Due.TheVariants as due
 use Rattle.ladder_claim.proofs.SendingCore.{SendsAs, past_as, asks_as}
 use Rattle.ladder_claim.proofs.Course.{Course, next_needed, sent_on}
-use Rattle.ladder_claim.proofs.CoreAsked.{Asking, asking, frame_least}
+use Rattle.ladder_claim.proofs.CoreAsked.{Asking, asking}
 use Rattle.ladder_claim.proofs.Going.{Live}
 
 module _ (C : Course) (fs d : List ℕ) (sent : length d ≡ C.t.count) where
   -- what a ladder l leaves where a frame is asked for
   pub data Asked (l : Ladder) (x : Sent) : Type 0 where
-    row : (r : Row) → x.due ≡ due.Row r → Live C x.ladder → x.ladder.frames ≡ l.frames + 1 → Asked l x
+    row : (r : Row) → x.line ≡ Some r → Live C x.ladder → x.ladder.frames ≡ l.frames + 1 → Asked l x
     -- the window is full, or the end is reached
-    none : x.due ≡ due.Nothing → Live C x.ladder → x.ladder.frames ≡ l.frames → x.ladder.before ≡ l.before → l.before < l.frames → Asked l x
+    none : x.line ≡ None → Live C x.ladder → x.ladder.frames ≡ l.frames → x.ladder.before ≡ l.before → l.before < l.frames → Asked l x
 
   module _ (l : Ladder) (v : Live C l) (b : List ℕ) where
     open v use {going, nothing}
@@ -43,7 +43,7 @@ module _ (C : Course) (fs d : List ℕ) (sent : length d ≡ C.t.count) where
     lent = lent_again s (length d) on.holds (sent ∙ sym (ap (λ (x : Transfer). x.count) on.transfer))
 
     -- a port left as y that stands for the same record
-    waiting : (y : Sending) → SendsAs y s → 1 ≤ s.unanswered → Asked l (out_by (nothing_of l y) b)
+    waiting : (y : Sending) → SendsAs y s → 1 ≤ s.unanswered → Asked l (next_line_by (nothing_of l y) b)
     waiting y a w =
         Asked.none refl (record { going = record { s = s; j = j; m = m; sends = a; on = on; quiet = quiet; owed = owed; undone = undone; bound = bound }; nothing = nothing }) refl refl
         (omega arith)
@@ -72,12 +72,9 @@ module _ (C : Course) (fs d : List ℕ) (sent : length d ≡ C.t.count) where
         refl
 
     asked_by_lem : (x : Called Sending) {z : Left Sender} → Asking s d z → SendsAs x.left z.left → x.says ≡ z.says → Asked l (asked_by l x fs b)
-    unfolding pick
     asked_by_lem x (Asking.waits w) a e = rw e (waiting x.left a w)
     asked_by_lem x (Asking.hands u) a e =
-        let n = frame_least s d x.lent lent in
-        let q : eqb (length (frame_of s d)) 0 ≡ false = ne_eqb (length (frame_of s d)) 0 (omega arith) in
-        rw (e, q) (handing x.left (take (length (frame_of s d)) x.lent) a u)
+        rw e (handing x.left (take (length (frame_of s d)) x.lent) a u)
 
     -- at the most rows the end is reached
     full : ROWS-MOST ≤ l.frames → 1 ≤ s.unanswered
@@ -114,7 +111,7 @@ module _ (C : Course) (fs d : List ℕ) (sent : length d ≡ C.t.count) where
     unfolding out_of pick
     outs = go (open_of l) refl
       where
-        go : (t : Bool) → open_of l ≡ t → Asked l (pick t (asked_by l (ask_of l.sending d area) fs b) (out_by (nothing_of l l.sending) b))
+        go : (t : Bool) → open_of l ≡ t → Asked l (pick t (asked_by l (ask_of l.sending d area) fs b) (next_line_by (nothing_of l l.sending) b))
         go true e =
             let a = asks_as l.sending s d area sends lent in
             asked_by_lem (ask_of l.sending d area) (asking s d area lent on.live quiet undone (omega (arith, length-replicate {A = ℕ} 1_048 0))) a.0 a.1

@@ -8,6 +8,7 @@ use native.Mathlib.Nat.{mul-le-mul_left}
 use native.Mathlib.Omega.{arith}
 use lib.Seq.{ext_get_or}
 use lib.ListN.{length, get_or, length-map}
+use Rattle.std.specs.Prelude.{Option, Some, None}
 use Rattle.status.proofs.OpenedCall.{differ}
 use Rattle.frame.specs.Read.{decode}
 use Rattle.link.specs.Ports.{Ports}
@@ -22,7 +23,7 @@ use Rattle.ladder_run.specs.Fates.{faults_of}
 use Rattle.ladder_run.specs.Row.{ROWS-MOST, shown_of, silent}
 use Rattle.ladder_run.specs.Whole.{Whole, climb}
 use Rattle.ladder_run.specs.declared.types.Report.{Report}
-use Rattle.ladder_run.specs.declared.types.Report.TheVariants.{Nothing, Delivered, Failed}
+use Rattle.ladder_run.specs.declared.types.Report.TheVariants.{Delivered, Failed}
 use Rattle.ladder_run.specs.declared.types.Ladder.{Ladder}
 use Rattle.ladder_claim.specs.Claim.{burst_of, shown_in, on_link, Started, IsDelivered, Claimed, LadderClaim}
 use Rattle.ladder_claim.proofs.Embeds.{Embeds, read_embeds, write_embeds}
@@ -32,15 +33,15 @@ use Rattle.ladder_claim.proofs.Ends.{ends}
 use Rattle.ladder_claim.proofs.Begun.{Begun, begun}
 
 -- a report on the link is the ladder's
-delivered_as : (q : Report) (n : ℕ) → on_link q ≡ link.Report.delivered n → q ≡ Delivered n
-delivered_as Nothing n e = differ (cc)
-delivered_as (Delivered m) n e = cc
-delivered_as (Failed f m) n e = differ (cc)
+delivered_as : (q : Option Report) (n : ℕ) → on_link q ≡ link.Report.delivered n → q ≡ Some (Delivered n)
+delivered_as None n e = differ (cc)
+delivered_as (Some (Delivered m)) n e = cc
+delivered_as (Some (Failed f m)) n e = differ (cc)
 
-reported : (q : Report) → silent q ≡ false → on_link q ≡ link.Report.none → ⊥
-reported Nothing e f = false≢true (sym e)
-reported (Delivered n) e f = differ (cc)
-reported (Failed g n) e f = differ (cc)
+reported : (q : Option Report) → silent q ≡ false → on_link q ≡ link.Report.none → ⊥
+reported None e f = false≢true (sym e)
+reported (Some (Delivered n)) e f = differ (cc)
+reported (Some (Failed g n)) e f = differ (cc)
 
 module _ {P : Ports} (E : Embeds P) (r : Run) (s : P.Sending) (y : P.Receiving) (fs d b : List ℕ) (o : Opens E r s y fs d b) (dl : length d ≡ r.count) (bl : length b ≡ r.count) (k : ℕ) (enough : ROWS-MOST < k) where
   abbrev whole : Whole

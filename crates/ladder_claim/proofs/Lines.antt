@@ -11,11 +11,12 @@ use Rattle.status.specs.Pick.{pick}
 use Rattle.ladder_text.specs.declared.types.Row.{Row}
 use Rattle.ladder_text.specs.declared.types.Verdict.{Verdict}
 use Rattle.ladder_run.specs.Ends.{ask_of, past_of}
-use Rattle.ladder_run.specs.Row.{area, silent, ROWS-MOST, COUNT-MOST, Sent, out_by, nothing_of, asked_by, out_of}
+use Rattle.ladder_run.specs.Row.{NextLine, area, silent, ROWS-MOST, COUNT-MOST, Sent, next_line_by, nothing_of, asked_by, out_of}
 use Rattle.ladder_run.specs.Round.{closed_of}
-use Rattle.ladder_run.specs.Line.{NextLine, begins, firstly, line_of}
+use Rattle.ladder_run.specs.Line.{begins, firstly, line_of}
 use Rattle.ladder_run.specs.Whole.{Whole, onward, climb}
 use Rattle.ladder_run.specs.declared.types.Ladder.{Ladder}
+use Rattle.ladder_run.specs.declared.types.Line.{Line}
 use Rattle.ladder_run.specs.declared.types.Line.TheVariants as line
 use Rattle.ladder_claim.proofs.Course.{Course, j_most}
 use Rattle.ladder_claim.proofs.Going.{Live, Reports, Done}
@@ -23,13 +24,13 @@ use Rattle.ladder_claim.proofs.Handing.{Asked, outs}
 use Rattle.ladder_claim.proofs.Answered.{closes, closed_frames}
 
 -- no frame is asked for any more
-pub over : (l : Ladder) (fs d b : List ℕ) → silent l.report ≡ false → out_of l fs d b ≡ out_by (nothing_of l l.sending) b
+pub over : (l : Ladder) (fs d b : List ℕ) → silent l.report ≡ false → out_of l fs d b ≡ next_line_by (nothing_of l l.sending) b
 unfolding out_of pick
-over l fs d b e i = pick (e i && ltb l.frames ROWS-MOST && leb (past_of l.sending) COUNT-MOST) (asked_by l (ask_of l.sending d area) fs b) (out_by (nothing_of l l.sending) b)
+over l fs d b e i = pick (e i && ltb l.frames ROWS-MOST && leb (past_of l.sending) COUNT-MOST) (asked_by l (ask_of l.sending d area) fs b) (next_line_by (nothing_of l l.sending) b)
 
 module _ (C : Course) (fs d : List ℕ) (lists : length fs ≡ C.listed) (sent : length d ≡ C.t.count) where
   -- the line x of a ladder that had handed out n frames
-  data Lined (n : ℕ) (x : NextLine) : Type 0 where
+  data Lined (n : ℕ) (x : NextLine Line) : Type 0 where
     row : (r : Row) → x.line ≡ line.Row r → Live C x.ladder → x.ladder.frames ≡ n + 1 → Lined n x
     verdict : (v : Verdict) → x.line ≡ line.Verdict v → Done C x.ladder → x.ladder.frames ≡ n → Lined n x
 
@@ -46,7 +47,7 @@ module _ (C : Course) (fs d : List ℕ) (lists : length fs ≡ C.listed) (sent :
   unfolding line_of
   lines l b v = go (out_of l fs d b) (outs C fs d sent l v b)
     where
-      go : (x : Sent) → Asked C fs d sent l x → Lined l.frames (firstly fs d x.ladder x.due x.received)
+      go : (x : Sent) → Asked C fs d sent l x → Lined l.frames (firstly fs d x.ladder x.line x.received)
       go x (Asked.row r e w f) = rw e (Lined.row r refl w f)
       go x (Asked.none e w f g h) =
           let k : x.ladder.before < x.ladder.frames = omega arith in
@@ -66,7 +67,7 @@ module _ (C : Course) (fs d : List ℕ) (lists : length fs ≡ C.listed) (sent :
   climbs (suc k) l b v h = go (λ m c w n. climbs k m c w n) (line_of l fs d b) (lines l b v)
     where
       go : ((m : Ladder) (c : List ℕ) → Live C m → ROWS-MOST < k + m.frames → Climbed m.frames (climb k fs d m c)) →
-          (x : NextLine) → Lined l.frames x → Climbed l.frames (onward x.line x.ladder x.received (λ m c. climb k fs d m c))
+          (x : NextLine Line) → Lined l.frames x → Climbed l.frames (onward x.line x.ladder x.received (λ m c. climb k fs d m c))
       go on x (Lined.row r e w f) =
           let c = on x.ladder x.received w (omega arith) in
           rw e (record { reports = c.reports; frames = omega (arith, c.frames) })

@@ -6,6 +6,7 @@ use mathlib.Core.Path.{◌≡◌, refl, sym, ap, subst, ◌∙◌}
 use native.Mathlib.Omega.{arith}
 use lib.ListN.{take}
 use borrow.Author.Tests.{ne_eqb}
+use Rattle.std.specs.Prelude.{Option, Some, None, Option, Some, None}
 use Rattle.status.specs.Pick.{pick}
 use Rattle.status.specs.Answer.{Said}
 use Rattle.status.proofs.OpenedCall.{differ}
@@ -18,14 +19,11 @@ use Rattle.ladder_text.specs.declared.types.Fate.TheVariants.{Ok, Noack, Bad, No
 use Rattle.ladder_text.specs.declared.types.Row.{Row}
 use Rattle.ladder_run.specs.Ends.{called, ask_of, arrive_of}
 use Rattle.ladder_run.specs.Fates.{fate_of, fault}
-use Rattle.ladder_run.specs.Row.{Sent, Meeting, area, arrives, met_of, open_of, nothing_of, out_by, row_of, shown_of, sent_of, asked_by, out_of}
+use Rattle.ladder_run.specs.Row.{Sent, Meeting, area, arrives, met_of, open_of, nothing_of, next_line_by, row_of, shown_of, sent_of, asked_by, out_of}
 use Rattle.ladder_run.specs.declared.types.Sending.{Sending}
 use Rattle.ladder_run.specs.declared.types.Receiving.{Receiving}
 use Rattle.ladder_run.specs.declared.types.Report.{Report}
-use Rattle.ladder_run.specs.declared.types.Report.TheVariants.{Nothing}
 use Rattle.ladder_run.specs.declared.types.Shown.{Shown}
-use Rattle.ladder_run.specs.declared.types.Due.{Due}
-use Rattle.ladder_run.specs.declared.types.Due.TheVariants as due
 use Rattle.ladder_run.specs.declared.types.Ladder.{Ladder}
 use Rattle.ladder_claim.specs.Rounds.{frame_event, each}
 use Rattle.ladder_claim.specs.Claim.{on_link, shown_in}
@@ -36,29 +34,29 @@ use Rattle.ladder_claim.proofs.Owed.{joined, lost_by, owed_by, Level, level_on}
 use Rattle.ladder_claim.proofs.Stands.{at, Filled, Stands}
 
 -- the rows with that of a frame handed out
-abbrev pub with_due : Due → List Row → List Row
-with_due (due.Row r) rows = rows ++ (r ∷ [])
-with_due due.Nothing rows = rows
+abbrev pub with_due : Option Row → List Row → List Row
+with_due (Some r) rows = rows ++ (r ∷ [])
+with_due None rows = rows
 
 -- a frame asked for where none was due
-abbrev pub wait_due : {P : Ports} → Due → List (Event P)
-wait_due (due.Row r) = []
-wait_due due.Nothing = Event.ask area ∷ []
+abbrev pub wait_due : {P : Ports} → Option Row → List (Event P)
+wait_due (Some r) = []
+wait_due None = Event.ask area ∷ []
 
-none_filled : {q : Report} → q ≡ Nothing → (filled end : ℕ) → Filled q filled end
+none_filled : {q : Option Report} → q ≡ None → (filled end : ℕ) → Filled q filled end
 none_filled e filled end n f = differ (cc)
 
 module _ {P : Ports} (E : Embeds P) (start : World P) (end : ℕ) (fs d : List ℕ) (l : Ladder) (b : List ℕ) (rows_so_far : List Row) (st : Stands E start end fs d l b rows_so_far []) where
   open st use {s, r, confirmations, tally, handed, rounds, current, sending, receiving, level, reached, filled, shown, fates, waits as waited}
 
   abbrev StandsAfter : Sent → Type 0
-  StandsAfter x = Stands E start end fs d x.ladder x.received (with_due x.due rows_so_far) (wait_due x.due)
+  StandsAfter x = Stands E start end fs d x.ladder x.received (with_due x.line rows_so_far) (wait_due x.line)
 
   abbrev pub here : World P
   here = at s r d b confirmations tally handed (on_link l.report)
 
   -- no frame was due: the sending port is y then
-  waits : (y : P.Sending) → Reaches start (so_far rounds current [] ++ (Event.ask area ∷ [])) (at y r d b confirmations tally handed (on_link l.report)) → StandsAfter (out_by (nothing_of l (E.sender y)) b)
+  waits : (y : P.Sending) → Reaches start (so_far rounds current [] ++ (Event.ask area ∷ [])) (at y r d b confirmations tally handed (on_link l.report)) → StandsAfter (next_line_by (nothing_of l (E.sender y)) b)
   waits y g =
       record {
         s = y;
@@ -78,7 +76,7 @@ module _ {P : Ports} (E : Embeds P) (start : World P) (end : ℕ) (fs d : List �
         waits = waited;
       }
 
-  module _ (quiet : l.report ≡ Nothing) where
+  module _ (quiet : l.report ≡ None) where
     -- frame f was handed out by a port that is y then
     module _ (y : P.Sending) (f : List ℕ) (go : Reaches start (so_far rounds current [] ++ (Event.ask area ∷ [])) (record { sending = y; receiving = r; sent = d; received = b; frames = f ∷ []; confirmations = confirmations; tally = handed_out tally; handed = handed ++ (f ∷ []); report = on_link l.report })) where
       -- its row, with its fate x
@@ -89,7 +87,7 @@ module _ {P : Ports} (E : Embeds P) (start : World P) (end : ℕ) (fs d : List �
       sent_as x m =
           record {
             ladder = record { sending = E.sender y; receiving = m.receiving; frames = l.frames + 1; before = l.before; report = l.report };
-            due = due.Row (row_as x m);
+            line = Some (row_as x m);
             received = m.received;
           }
 
@@ -135,8 +133,7 @@ module _ {P : Ports} (E : Embeds P) (start : World P) (end : ℕ) (fs d : List �
 
     -- by what the port answers
     confirmed : (y : P.Sending) (a : Said) (lent : List ℕ) → Fair a → Reaches start (so_far rounds current [] ++ (Event.ask area ∷ [])) (asks here (record { left = y; says = a; lent = lent })) → StandsAfter (asked_by l (record { left = E.sender y; says = a; lent = lent }) fs b)
-    unfolding pick
-    confirmed y (Said.frame n) lent p g = rw (ne_eqb n 0 (λ e. omega arith)) (sent y (take n lent) g)
+    confirmed y (Said.frame n) lent p g = sent y (take n lent) g
     confirmed y (Said.refused n) lent p g = waits y g
     confirmed y (Said.failed f n) lent p g = absurd p
     confirmed y (Said.delivered n) lent p g = absurd p
@@ -157,8 +154,8 @@ module _ {P : Ports} (E : Embeds P) (start : World P) (end : ℕ) (fs d : List �
     unfolding out_of pick
     out_stands idle = go (open_of l) refl
       where
-        go : (t : Bool) → open_of l ≡ t → StandsAfter (pick t (asked_by l (ask_of l.sending d area) fs b) (out_by (nothing_of l l.sending) b))
+        go : (t : Bool) → open_of l ≡ t → StandsAfter (pick t (asked_by l (ask_of l.sending d area) fs b) (next_line_by (nothing_of l l.sending) b))
         go true e = asked
         go false e =
-            subst (λ (v : Sending). StandsAfter (out_by (nothing_of l v) b)) (sym sending)
+            subst (λ (v : Sending). StandsAfter (next_line_by (nothing_of l v) b)) (sym sending)
             (waits s (subst (λ (w : World P). Reaches start (so_far rounds current [] ++ (Event.ask area ∷ [])) w) (idle e) (reaches_on reached (Event.ask area) tt)))

@@ -2,6 +2,7 @@
 use Prim.Native.Nat.{ℕ}
 use mathlib.Core.List.{List, [], ◌++◌, map}
 use mathlib.Core.Path.{◌≡◌}
+use Rattle.std.specs.Prelude.{Option, Some, None}
 use Rattle.frame.specs.Read.{decode}
 use Rattle.link.specs.Ports.{Ports}
 use Rattle.link.specs.Tally.{Confirmation, Tally}
@@ -36,8 +37,8 @@ pub record Fills {P : Ports} (E : Embeds P) (start : World P) (end : ℕ) : Type
   pub timeout : (w : World P) (es : List (Event P)) → Reaches start es w → w.report ≡ link.Report.none → (n : ℕ) → (step w Event.timeout).report ≡ link.Report.delivered n → filled_of (E.receiver w.receiving) ≡ end
 
 -- delivered, then filled
-abbrev pub Filled : Report → ℕ → ℕ → Type 0
-Filled q filled end = (n : ℕ) → q ≡ Delivered n → filled ≡ end
+abbrev pub Filled : Option Report → ℕ → ℕ → Type 0
+Filled q filled end = (n : ℕ) → q ≡ Some (Delivered n) → filled ≡ end
 
 module _ {P : Ports} (E : Embeds P) (start : World P) (end : ℕ) (fs d : List ℕ) where
   -- the ladder l with the received data b and so many rows; the last events of its round

@@ -1,6 +1,6 @@
 -- What holds of every ladder of a run file: it ends with a report after so many rows; with retries on it is one of the delivery claim's lists, and what the claim says of
 -- every list is said of it.
-use Rattle.std.specs.Prelude.{ℕ, ◌+◌, ◌-◌, ◌*◌, ◌≤◌, List, map, false, true, ◌≡◌, length}
+use Rattle.std.specs.Prelude.{ℕ, ◌+◌, ◌-◌, ◌*◌, ◌≤◌, List, map, false, true, ◌≡◌, length, Option, Some, None}
 use Rattle.status.specs.Result.{Result}
 use Rattle.frame.specs.Read.{decode}
 use Rattle.link.specs.Ports.{Ports}
@@ -18,7 +18,7 @@ use Rattle.ladder_run.specs.Row.{FATES-MOST, shown_of, silent}
 use Rattle.ladder_run.specs.Setup.{set_up_of}
 use Rattle.ladder_run.specs.Whole.{Whole, whole_of}
 use Rattle.ladder_run.specs.declared.types.Report.{Report}
-use Rattle.ladder_run.specs.declared.types.Report.TheVariants.{Nothing, Delivered, Failed}
+use Rattle.ladder_run.specs.declared.types.Report.TheVariants.{Delivered, Failed}
 use Rattle.ladder_run.specs.declared.types.Shown.{Shown}
 use Rattle.ladder_run.specs.declared.types.Ladder.{Ladder}
 use Rattle.ladder_claim.specs.Rows.{RowsFrom}
@@ -41,16 +41,16 @@ abbrev pub SetsUp : Type 0
 SetsUp = (r : Run) → within_limits r ≡ true → (l : Ladder) × (set_up_of r ≡ Result.value l)
 
 -- the frames that a report counts
-abbrev pub frames_in : Report → ℕ
-frames_in Nothing = 0
-frames_in (Delivered n) = n
-frames_in (Failed f n) = n
+abbrev pub frames_in : Option Report → ℕ
+frames_in None = 0
+frames_in (Some (Delivered n)) = n
+frames_in (Some (Failed f n)) = n
 
 -- a ladder that failed did so with 28 or 29: it has no cut
-abbrev pub Numbered : Report → Type 0
-Numbered Nothing = ⊥
-Numbered (Delivered n) = Unit {0}
-Numbered (Failed f n) = (28 ≤ f) × (f ≤ 29)
+abbrev pub Numbered : Option Report → Type 0
+Numbered None = ⊥
+Numbered (Some (Delivered n)) = Unit {0}
+Numbered (Some (Failed f n)) = (28 ≤ f) × (f ≤ 29)
 
 -- the sending port has reported, and its count is that of the rows
 pub record Ended (r : Run) (fs : List ℕ) (x : Whole) : Type 0 where
@@ -67,10 +67,10 @@ abbrev pub Ends : Type 0
 Ends = (r : Run) (l : Ladder) (fs d b : List ℕ) → Started r l fs d b → Ended r fs (whole_of fs d l b)
 
 -- the report, as the link has it
-abbrev pub on_link : Report → link.Report
-on_link Nothing = link.Report.none
-on_link (Delivered n) = link.Report.delivered n
-on_link (Failed f n) = link.Report.failed f n
+abbrev pub on_link : Option Report → link.Report
+on_link None = link.Report.none
+on_link (Some (Delivered n)) = link.Report.delivered n
+on_link (Some (Failed f n)) = link.Report.failed f n
 
 -- what a row shows of its frame
 abbrev pub shown_in : Row → Shown
@@ -105,7 +105,7 @@ abbrev pub Lists : Type 1
 Lists = (r : Run) (l : Ladder) (fs d b : List ℕ) → Started r l fs d b → 1 ≤ r.limit → Listed r fs d b (whole_of fs d l b)
 
 abbrev pub IsDelivered : Whole → Type 0
-IsDelivered x = (n : ℕ) × (x.last.report ≡ Delivered n)
+IsDelivered x = (n : ℕ) × (x.last.report ≡ Some (Delivered n))
 
 -- what the delivery claim says of a ladder
 pub record Claimed (r : Run) (fs d : List ℕ) (x : Whole) : Type 0 where

@@ -10,7 +10,8 @@ use Rattle.ladder_text.specs.Place.{Puts, line_text}
 use Rattle.ladder_text.specs.declared.types.Row.{Row}
 use Rattle.ladder_text.specs.declared.types.Verdict.{Verdict}
 use Rattle.ladder_text.proofs.Joined.{lines_behind}
-use Rattle.ladder_run.specs.Line.{NextLine, next_line_by, line_of, verdict_of}
+use Rattle.ladder_run.specs.Row.{NextLine, next_line_by}
+use Rattle.ladder_run.specs.Line.{line_of, verdict_of}
 use Rattle.ladder_run.specs.Whole.{Whole, above, onward, climb}
 use Rattle.ladder_run.specs.declared.types.Ladder.{Ladder}
 use Rattle.ladder_run.specs.declared.types.Line.{Line}
@@ -35,9 +36,9 @@ pub record Climbing (fs d out₀ : List ℕ) (w : Whole) (b out : List ℕ) (l :
 pub climbing_first : (fs d out b : List ℕ) (l : Ladder) (k : ℕ) → 35 * k ≤ 1_340_220 → Climbing fs d out (climb k fs d l b) b out l 0 k
 climbing_first fs d out b l k m = record { text = []; front = front_none out; rows = refl; last = refl; room = omega arith; within = omega arith }
 
-module _ (fs d b : List ℕ) (l : Ladder) {x : Next} {c : List ℕ} (h : next_line_by x c ≡ line_of l fs d b) where
+module _ (fs d b : List ℕ) (l : Ladder) {x : Next Line} {c : List ℕ} (h : next_line_by x c ≡ line_of l fs d b) where
   goes : (k : ℕ) → climb (suc k) fs d l b ≡ onward x.line x.ladder c (λ m e. climb k fs d m e)
-  goes k = ap (λ (v : NextLine). onward v.line v.ladder v.received (λ m e. climb k fs d m e)) (sym h)
+  goes k = ap (λ (v : NextLine Line). onward v.line v.ladder v.received (λ m e. climb k fs d m e)) (sym h)
 
   pub goes_row : (k : ℕ) {r : Row} → x.line ≡ line.Row r → climb (suc k) fs d l b ≡ above r (climb k fs d x.ladder c)
   goes_row k p = goes k ∙ ap (λ (v : Line). onward v x.ladder c (λ m e. climb k fs d m e)) p
@@ -46,7 +47,7 @@ module _ (fs d b : List ℕ) (l : Ladder) {x : Next} {c : List ℕ} (h : next_li
   goes_over k p = goes k ∙ ap (λ (v : Line). onward v x.ladder c (λ m e. climb k fs d m e)) p
 
   pub row_short : {r : Row} → x.line ≡ line.Row r → length (line_text (row_text r)) ≤ 35
-  row_short {r} p = (small_lines l fs d b r (ap (λ (v : NextLine). v.line) (sym h) ∙ p)).text
+  row_short {r} p = (small_lines l fs d b r (ap (λ (v : NextLine Line). v.line) (sym h) ∙ p)).text
 
 module _ {fs d out₀ : List ℕ} {w : Whole} {b out : List ℕ} {l : Ladder} {at left : ℕ} (g : Climbing fs d out₀ w b out l at left) where
   pub out_length : length out ≡ length out₀
@@ -62,7 +63,7 @@ module _ {fs d out₀ : List ℕ} {w : Whole} {b out : List ℕ} {l : Ladder} {a
       let rows : length (rows_text w.rows) ≡ length g.text + length rest = ap length (sym g.rows) ∙ length-append g.text rest in
       (omega (arith, g.room, out_length), omega (arith, whole, rows, g.front.place, out_length))
 
-  module _ {x : Next} {c : List ℕ} (h : next_line_by x c ≡ line_of l fs d b) (some : 0 < left) where
+  module _ {x : Next Line} {c : List ℕ} (h : next_line_by x c ≡ line_of l fs d b) (some : 0 < left) where
     as_suc : left ≡ suc (left - 1)
     as_suc = omega arith
 
@@ -111,7 +112,7 @@ module _ {fs d out₀ : List ℕ} {w : Whole} {b out : List ℕ} {l : Ladder} {a
   pub room_now : at + 64 ≤ length out
   room_now = omega (arith, g.room, out_length g)
 
-  pub climbing_row : {x : Next} {c : List ℕ} (h : next_line_by x c ≡ line_of l fs d b) (some : 0 < left) {r : Row} {n : ℕ} {e : List ℕ} → x.line ≡ line.Row r → Puts out at (line_text (row_text r)) n e → Climbing fs d out₀ w c e x.ladder n (left - 1)
+  pub climbing_row : {x : Next Line} {c : List ℕ} (h : next_line_by x c ≡ line_of l fs d b) (some : 0 < left) {r : Row} {n : ℕ} {e : List ℕ} → x.line ≡ line.Row r → Puts out at (line_text (row_text r)) n e → Climbing fs d out₀ w c e x.ladder n (left - 1)
   climbing_row h some p q = climbing_row_if_room g h some room_now p q
 
   pub climbed : {v : Verdict} {n : ℕ} {e : List ℕ} → left ≡ 0 → v ≡ verdict_of fs l → at + length (line_text (verdict_text v)) ≤ length out₀ → Puts out at (line_text (verdict_text v)) n e → Puts out₀ 0 (whole_text fs w) n e

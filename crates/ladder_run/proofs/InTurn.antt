@@ -1,25 +1,14 @@
 -- The fates' list, read by index.
-use Prim.Native.Nat.{ℕ, zero, suc, ◌+◌, ◌-◌, ◌≤◌, ◌<◌}
-use mathlib.Core.List.{List, [], ◌∷◌}
-use mathlib.Core.Path.{◌≡◌, refl, sym, ap}
+use Prim.Native.Nat.{ℕ, suc, ◌+◌, ◌-◌, ◌≤◌, ◌<◌}
+use mathlib.Core.List.{List}
+use mathlib.Core.Path.{◌≡◌, ap}
 use native.Mathlib.Omega.{arith}
 use native.Mathlib.Numerals.{add-one}
-use lib.ListN.{length, get_or}
-use Rattle.ladder_text.specs.Words.{fate_at}
 use Rattle.ladder_text.specs.declared.types.Fate.{Fate}
 use Rattle.ladder_text.specs.declared.types.Fate.TheVariants.{Ok, Noack, Bad, Nonak, Lost}
 use Rattle.ladder_run.specs.Fates.{fate_of, fault, faults_of}
 use Rattle.ladder_run.specs.Round.{confirmed_by, confirmations_of}
 use Rattle.ladder_run.specs.declared.types.Confirming.{Confirming}
-
-pub past : (l : List ℕ) (n : ℕ) → length l ≤ n → get_or l n 0 ≡ 0
-past [] n h = refl
-past (x ∷ l) zero h = absurd (omega arith)
-past (x ∷ l) (suc n) h = past l n (omega arith)
-
--- "past the list, `ok`"
-pub past_ok : (fs : List ℕ) (n : ℕ) → length fs ≤ n → Ok ≡ fate_of fs n
-past_ok fs n h = ap fate_at (sym (past fs n h))
 
 pub fault_most : (f : Fate) → fault f ≤ 1
 fault_most Ok = omega arith

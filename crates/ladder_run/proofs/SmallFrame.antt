@@ -1,4 +1,4 @@
--- A frame that a sending port hands out: its data offset is below start plus count, since the port's next offset is below its burst's end.
+-- A frame that a sending port hands out fits the output buffer, and its data offset is below start plus count, since the port's next offset is below its burst's end.
 use Prim.Native.Nat.{ℕ, ◌^◌, ◌≤◌, ◌<◌}
 use mathlib.Core.List.{List, []}
 use mathlib.Core.Bool.{Bool, true, false}
@@ -12,7 +12,7 @@ use Rattle.status.specs.Entry.{entry_of}
 use Rattle.status.specs.Answer.{Word, Said, Left, ◌saying◌, unless}
 use Rattle.status.specs.Result.{Result}
 use Rattle.status.specs.Entry.{Entry}
-use Rattle.std.specs.Prelude.{Ok, Err}
+use Rattle.std.specs.Prelude.{Ok, Err, None}
 use Rattle.status.proofs.Choose.{each}
 use Rattle.status.proofs.Leaves.{picked, unless_gives}
 use Rattle.status.proofs.OpenedCall.{opened}
@@ -38,10 +38,10 @@ use Rattle.ladder_run.specs.declared.types.Sending.{Sending}
 use Rattle.ladder_run.specs.declared.types.Sending.TheVariants as sending
 use Rattle.ladder_run.specs.declared.types.Shown.{Shown}
 
--- nothing was handed out, or the frame f, whose data offset is below p
-pub data Hands (p : ℕ) (f : List ℕ) : Said → Type 0 where
-  nothing : {x : Said} → handed x ≡ 0 → Hands p f x
-  frame : (header_in f).offset < p → Hands p f (Said.frame (length f))
+-- nothing was handed out, or the frame f of at most m bytes, whose data offset is below p
+pub data Hands (p m : ℕ) (f : List ℕ) : Said → Type 0 where
+  nothing : {x : Said} → handed x ≡ None → Hands p m f x
+  frame : (header_in f).offset < p → length f ≤ m → Hands p m f (Said.frame (length f))
 
 -- the data offset comes back
 offset_back : (h : Header) (iu : List ℕ) → h.offset < 2 ^ 32 → (header_in (encode h iu)).offset ≡ h.offset
@@ -59,39 +59,40 @@ module _ (s : Sender) (d out : List ℕ) where
       let u = due s w in
       omega (arith, m.next_most, m.end_most, u.next, offset_back (data_header s) (part_of s d) (omega (arith, m.next_most, m.end_most, t.past_most)))
 
-  next_hands : Hands (past s.transfer) (frame_of s d) (next_of s d out).says
+  next_hands : Hands (past s.transfer) (length out) (frame_of s d) (next_of s d out).says
   unfolding next_of hands pick
-  next_hands = go (entry_of (lent_of s (length d)) s.ended) (waits_of s) (leb (length (frame_of s d)) (length out)) refl refl
+  next_hands = go (entry_of (lent_of s (length d)) s.ended) (waits_of s) (leb (length (frame_of s d)) (length out)) refl refl refl
     where
-      go : (e : Entry) (w t : Bool) → e ≡ entry_of (lent_of s (length d)) s.ended → waits_of s ≡ w → Hands (past s.transfer) (frame_of s d) (unless e s (pick w (s saying Said.word Word.wait) (pick t (sent_of s saying Said.frame (length (frame_of s d))) (s saying Said.refused 3)))).says
-      go (Err why) w t p q = Hands.nothing refl
-      go (Ok tt) true t p q = Hands.nothing refl
-      go (Ok tt) false false p q = Hands.nothing refl
-      go (Ok tt) false true p q = Hands.frame (due_offset (opened _ _ (p)).0 q)
+      go : (e : Entry) (w t : Bool) → e ≡ entry_of (lent_of s (length d)) s.ended → waits_of s ≡ w → leb (length (frame_of s d)) (length out) ≡ t → Hands (past s.transfer) (length out) (frame_of s d) (unless e s (pick w (s saying Said.word Word.wait) (pick t (sent_of s saying Said.frame (length (frame_of s d))) (s saying Said.refused 3)))).says
+      go (Err why) w t p q r = Hands.nothing refl
+      go (Ok tt) true t p q r = Hands.nothing refl
+      go (Ok tt) false false p q r = Hands.nothing refl
+      go (Ok tt) false true p q r = Hands.frame (due_offset (opened _ _ p).0 q) (leb-true _ _ r)
 
-  read_hands : Hands (past s.transfer) (frame_of s d) (read_next_of s d out).says
-  read_hands = picked (λ (x : Left Sender). Hands (past s.transfer) (frame_of s d) x.says) s.transfer.write _ _ (Hands.nothing refl) next_hands
+  read_hands : Hands (past s.transfer) (length out) (frame_of s d) (read_next_of s d out).says
+  read_hands = picked (λ (x : Left Sender). Hands (past s.transfer) (length out) (frame_of s d) x.says) s.transfer.write _ _ (Hands.nothing refl) next_hands
 
 -- the burst that starts is one of the same transfer
 begun_past : (w : Writer) → past (write.begun_of w).sender.transfer ≡ past w.sender.transfer
 unfolding write.begun_of
 begun_past w = picked (λ (v : Writer). past v.sender.transfer ≡ past w.sender.transfer) w.pending _ _ refl refl
 
-write_hands : (w : Writer) (d out : List ℕ) → Hands (past w.sender.transfer) (frame_of (write.begun_of w).sender d) (write.next_of w d out).says
+write_hands : (w : Writer) (d out : List ℕ) → Hands (past w.sender.transfer) (length out) (frame_of (write.begun_of w).sender d) (write.next_of w d out).says
 unfolding write.next_of
 write_hands w d out =
     let p = past w.sender.transfer in
+    let m = length out in
     let f = frame_of (write.begun_of w).sender d in
-    unless_gives (λ (x : Left Writer). Hands p f x.says) (entry_of (write.lent_of w (length d)) w.sender.ended) w _ (λ n. Hands.nothing refl)
-    (picked (λ (x : Left Writer). Hands p f x.says) (write.held_up w) _ _ (Hands.nothing refl)
-    (subst (Hands p f) (sym (kept_says w _)) (subst (λ (n : ℕ). Hands n f (next_of (write.begun_of w).sender d out).says) (begun_past w) (next_hands (write.begun_of w).sender d out))))
+    unless_gives (λ (x : Left Writer). Hands p m f x.says) (entry_of (write.lent_of w (length d)) w.sender.ended) w _ (λ n. Hands.nothing refl)
+    (picked (λ (x : Left Writer). Hands p m f x.says) (write.held_up w) _ _ (Hands.nothing refl)
+    (subst (Hands p m f) (sym (kept_says w _)) (subst (λ (n : ℕ). Hands n m f (next_of (write.begun_of w).sender d out).says) (begun_past w) (next_hands (write.begun_of w).sender d out))))
 
 -- the frame that is due at a port, if any is
 abbrev pub due_frame : Sending → List ℕ → List ℕ
 due_frame (sending.Read s) d = frame_of s d
 due_frame (sending.Write w) d = frame_of (write.begun_of w).sender d
 
-pub ask_hands : (s : Sending) (d out : List ℕ) → Hands (past_of s) (due_frame s d) (ask_of s d out).says
+pub ask_hands : (s : Sending) (d out : List ℕ) → Hands (past_of s) (length out) (due_frame s d) (ask_of s d out).says
 ask_hands (sending.Read s) d out = read_hands s d out
 ask_hands (sending.Write w) d out = write_hands w d out
 

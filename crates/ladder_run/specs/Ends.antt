@@ -1,6 +1,6 @@
 -- The two ports of a ladder: those of the delivery claim, of a read or of a write burst.
 use Rattle.std.specs.Prelude.{ℕ, List}
-use Rattle.status.specs.Answer.{says, Left, ◌saying◌}
+use Rattle.status.specs.Answer.{Left, ◌saying◌}
 use Rattle.transfer.specs.Limits.{past}
 use Rattle.link.specs.Ports.{Called, Signal}
 use Rattle.link.specs.Reading.{read_ports}
@@ -9,8 +9,8 @@ use Rattle.ladder_run.specs.declared.types.Sending.{Sending}
 use Rattle.ladder_run.specs.declared.types.Sending.TheVariants as sending
 use Rattle.ladder_run.specs.declared.types.Receiving.{Receiving}
 use Rattle.ladder_run.specs.declared.types.Receiving.TheVariants as receiving
-use Rattle.ladder_run.specs.declared.types.Asked.{Asked}
-use Rattle.ladder_run.specs.declared.types.Arrived.{Arrived}
+use Rattle.ladder_run.specs.declared.ends.Signal as ends
+use Rattle.ladder_run.specs.declared.ends.Signal.TheVariants.{Ack, Nak, Timeout}
 
 -- what a call leaves, as a port of one direction
 abbrev pub onto : {X Y : Type 0} → (X → Y) → Left X → Left Y
@@ -23,6 +23,12 @@ called f x = record { left = f x.left; says = x.says; lent = x.lent }
 abbrev pub ask_of : Sending → List ℕ → List ℕ → Called Sending
 ask_of (sending.Read s) d out = called sending.Read (read_ports.ask s d out)
 ask_of (sending.Write w) d out = called sending.Write (write_ports.ask w d out)
+
+-- the three signals of a ladder
+abbrev pub told : ends.Signal → Signal
+told Ack = Signal.ack
+told Nak = Signal.nak
+told Timeout = Signal.timeout
 
 abbrev pub signalled_of : Signal → Sending → Left Sending
 signalled_of g (sending.Read s) = onto sending.Read (read_ports.signal g s)
@@ -41,10 +47,3 @@ filled_of (receiving.Write y) = y.receiver.filled
 abbrev pub past_of : Sending → ℕ
 past_of (sending.Read s) = past s.transfer
 past_of (sending.Write w) = past w.sender.transfer
-
--- what the functions answer
-abbrev pub asked : Asked → Left Sending
-asked x = x.sending saying says x.answer
-
-abbrev pub arrived : Arrived → Left Receiving
-arrived x = x.receiving saying says x.answer

@@ -1,5 +1,5 @@
 -- "then answers come in order, then a timeout if any is missing".
-use Rattle.std.specs.Prelude.{ℕ, zero, suc, ◌+◌, ◌-◌, List, true, false}
+use Rattle.std.specs.Prelude.{ℕ, zero, suc, ◌+◌, ◌-◌, List, true, false, Option, Some, None}
 use Rattle.status.specs.Pick.{pick}
 use Rattle.status.specs.Report as status
 use Rattle.status.specs.Answer.{Said, view, Left}
@@ -10,24 +10,23 @@ use Rattle.ladder_run.specs.Ends.{signalled_of}
 use Rattle.ladder_run.specs.Fates.{fate_of}
 use Rattle.ladder_run.specs.declared.types.Sending.{Sending}
 use Rattle.ladder_run.specs.declared.types.Report.{Report}
-use Rattle.ladder_run.specs.declared.types.Report.TheVariants.{Nothing, Delivered, Failed}
+use Rattle.ladder_run.specs.declared.types.Report.TheVariants.{Delivered, Failed}
 use Rattle.ladder_run.specs.declared.types.Ladder.{Ladder}
 use Rattle.ladder_run.specs.declared.types.Confirming.{Confirming}
 
 -- what the sending port reports, if anything: its number, and the frames that it handed out
-abbrev pub reported : status.Report → Report
-reported status.Report.none = Nothing
-reported (status.Report.delivered n) = Delivered n
-reported (status.Report.failed f n) = Failed f n
+abbrev pub reported : status.Report → Option Report
+reported status.Report.none = None
+reported (status.Report.delivered n) = Some (Delivered n)
+reported (status.Report.failed f n) = Some (Failed f n)
 
-abbrev pub report_of : Said → Report
+abbrev pub report_of : Said → Option Report
 report_of a = reported (view a).report
 
 -- the first report stays
-abbrev pub first_of : Report → Report → Report
-first_of Nothing q = q
-first_of (Delivered n) q = Delivered n
-first_of (Failed f n) q = Failed f n
+abbrev pub first_of : Option Report → Option Report → Option Report
+first_of None q = q
+first_of (Some r) q = Some r
 
 -- the sending port was told something
 abbrev pub noted_of : Confirming → Left Sending → Confirming

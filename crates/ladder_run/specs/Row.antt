@@ -1,5 +1,5 @@
 -- "Frames go out until wait": one frame asked for, and its fate.
-use Rattle.std.specs.Prelude.{ℕ, ◌+◌, List, Bool, true, false, cond, ◌&&◌, take, replicate, leb, ltb, eqb}
+use Rattle.std.specs.Prelude.{ℕ, ◌+◌, List, Bool, true, false, cond, ◌&&◌, not, take, replicate, leb, ltb, Option, Some, None, is_some}
 use Rattle.status.specs.Pick.{pick, if_any}
 use Rattle.status.specs.Answer.{Said, view, number, stores}
 use Rattle.status.specs.Result.{Result}
@@ -15,21 +15,18 @@ use Rattle.ladder_run.specs.Fates.{fate_of, whole}
 use Rattle.ladder_run.specs.declared.types.Sending.{Sending}
 use Rattle.ladder_run.specs.declared.types.Receiving.{Receiving}
 use Rattle.ladder_run.specs.declared.types.Report.{Report}
-use Rattle.ladder_run.specs.declared.types.Report.TheVariants as report
 use Rattle.ladder_run.specs.declared.types.Ladder.{Ladder}
 use Rattle.ladder_run.specs.declared.types.Shown.{Shown}
 use Rattle.ladder_run.specs.declared.types.Met.{Met}
-use Rattle.ladder_run.specs.declared.types.Due.{Due}
-use Rattle.ladder_run.specs.declared.types.Due.TheVariants as due
-use Rattle.ladder_run.specs.declared.types.Out.{Out}
+use Rattle.ladder_run.specs.declared.types.Next.{Next}
 
 -- "a zeroed area of 1,048 bytes for the frame"
 abbrev pub area : List ℕ
 area = replicate 1_048 0
 
--- the length of the frame that was handed out; 0 where none was
-abbrev pub handed : Said → ℕ
-handed a = if_any (view a).frame (λ n. n) 0
+-- the length of the frame that was handed out, if one was
+abbrev pub handed : Said → Option ℕ
+handed a = if_any (view a).frame Some None
 
 -- "receiver (`stored`, `discarded`, `none` where nothing arrived, or the number it gave)"; 0 stands for what no DATA frame is answered
 abbrev pub receipt_of : Said → Receipt
@@ -60,10 +57,8 @@ abbrev pub met_by : Met → List ℕ → Meeting
 met_by m b = record { receiving = m.receiving; receipt = m.receipt; received = b }
 
 -- nothing is reported
-abbrev pub silent : Report → Bool
-silent report.Nothing = true
-silent (report.Delivered n) = false
-silent (report.Failed f n) = false
+abbrev pub silent : Option Report → Bool
+silent r = not (is_some r)
 
 -- no run file has more fates: it has at most 65,536 bytes, three or more for each, and line one
 abbrev pub FATES-MOST : ℕ
@@ -81,17 +76,21 @@ COUNT-MOST = 65_536
 abbrev pub open_of : Ladder → Bool
 open_of l = silent l.report && ltb l.frames ROWS-MOST && leb (past_of l.sending) COUNT-MOST
 
--- what a frame asked for leaves: the ladder, the row of the frame that was handed out, the received data
-pub record Sent : Type 0 where
+-- what is left of the ladder, what it tells, and the received data
+pub record NextLine (L : Type 0) : Type 0 where
   pub ladder : Ladder
-  pub due : Due
+  pub line : L
   pub received : List ℕ
 
-abbrev pub out_by : Out → List ℕ → Sent
-out_by x b = record { ladder = x.ladder; due = x.due; received = b }
+abbrev pub next_line_by : {L : Type 0} → Next L → List ℕ → NextLine L
+next_line_by x b = record { ladder = x.ladder; line = x.line; received = b }
 
-abbrev pub nothing_of : Ladder → Sending → Out
-nothing_of l s = record { ladder = record { sending = s; receiving = l.receiving; frames = l.frames; before = l.before; report = l.report }; due = due.Nothing }
+-- what a frame asked for leaves, with the row of the frame that was handed out, if one was
+abbrev pub Sent : Type 0
+Sent = NextLine (Option Row)
+
+abbrev pub nothing_of : Ladder → Sending → Next (Option Row)
+nothing_of l s = record { ladder = record { sending = s; receiving = l.receiving; frames = l.frames; before = l.before; report = l.report }; line = None }
 
 -- "Fields: frame (from 1), offset, bytes, CDP, fate, receiver"
 abbrev pub row_of : ℕ → Shown → Fate → Receipt → Row
@@ -104,13 +103,18 @@ sent_of l s f fs b =
     let m = met_of l.receiving fate f b in
     record {
       ladder = record { sending = s; receiving = m.receiving; frames = l.frames + 1; before = l.before; report = l.report };
-      due = due.Row (row_of (l.frames + 1) (shown_of (decode f)) fate m.receipt);
+      line = Some (row_of (l.frames + 1) (shown_of (decode f)) fate m.receipt);
       received = m.received;
     }
 
+-- the area's first n bytes went out, or nothing did
+abbrev pub due_of : Ladder → Called Sending → List ℕ → List ℕ → Option ℕ → Sent
+due_of l x fs b (Some n) = sent_of l x.left (take n x.lent) fs b
+due_of l x fs b None = next_line_by (nothing_of l x.left) b
+
 abbrev pub asked_by : Ladder → Called Sending → List ℕ → List ℕ → Sent
-asked_by l x fs b = pick (eqb (handed x.says) 0) (out_by (nothing_of l x.left) b) (sent_of l x.left (take (handed x.says) x.lent) fs b)
+asked_by l x fs b = due_of l x fs b (handed x.says)
 
 -- fates, sent data, received data
 unfoldable pub out_of : Ladder → List ℕ → List ℕ → List ℕ → Sent
-out_of l fs d b = pick (open_of l) (asked_by l (ask_of l.sending d area) fs b) (out_by (nothing_of l l.sending) b)
+out_of l fs d b = pick (open_of l) (asked_by l (ask_of l.sending d area) fs b) (next_line_by (nothing_of l l.sending) b)

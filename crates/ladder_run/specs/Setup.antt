@@ -1,7 +1,6 @@
 -- A ladder is set up at both ends; "a write is one burst, its XFER_RDY taken and acknowledged".
-use Rattle.std.specs.Prelude.{ℕ, Bool, true, false, leb}
+use Rattle.std.specs.Prelude.{ℕ, Bool, true, false, leb, None, unwrap_or}
 use Rattle.status.specs.Pick.{pick}
-use Rattle.status.specs.Number.{refusal_number}
 use Rattle.status.specs.Result.{Result}
 use Rattle.transfer.specs.declared.Transfer.{Transfer}
 use Rattle.sender.specs.Record as sender
@@ -24,7 +23,6 @@ use Rattle.ladder_run.specs.declared.types.Sending.{Sending}
 use Rattle.ladder_run.specs.declared.types.Sending.TheVariants as sending
 use Rattle.ladder_run.specs.declared.types.Receiving.{Receiving}
 use Rattle.ladder_run.specs.declared.types.Receiving.TheVariants as receiving
-use Rattle.ladder_run.specs.declared.types.Report.TheVariants.{Nothing}
 use Rattle.ladder_run.specs.declared.types.Ladder.{Ladder}
 
 -- hashed addresses and tag: any would do
@@ -44,7 +42,7 @@ transfer_of r write local remote =
 
 -- nothing has gone out yet
 abbrev pub fresh : Sending → Receiving → Ladder
-fresh s r = record { sending = s; receiving = r; frames = 0; before = 0; report = Nothing }
+fresh s r = record { sending = s; receiving = r; frames = 0; before = 0; report = None }
 
 abbrev pub ready_read : Result Sender → Result Receiver → Result Ladder
 ready_read (Result.number n) r = Result.number n
@@ -54,7 +52,7 @@ ready_read (Result.value s) (Result.value r) = Result.value (fresh (sending.Read
 -- the target hands out its XFER_RDY, the initiator takes it, the target gets the ACK
 unfoldable pub exchanged : Writer → Target → Ladder
 exchanged w y =
-    fresh (sending.Write (write_arrival_of w (xfer_rdy_sent y area (handed (next_of y area).says))).left)
+    fresh (sending.Write (write_arrival_of w (xfer_rdy_sent y area (unwrap_or (handed (next_of y area).says) 0))).left)
     (receiving.Write (ack_of (next_of y area).left).left)
 
 abbrev pub ready_write : Result Writer → Result Target → Result Ladder

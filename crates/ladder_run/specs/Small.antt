@@ -1,6 +1,6 @@
 -- How large the numbers of a row can be, and how long its line: of any ladder record, since a port hands out only what its tests of number 1 allow, and `open_of` asks
 -- for none beyond 65,536.
-use Rattle.std.specs.Prelude.{ℕ, ◌≤◌, ◌<◌, List, ◌≡◌, length}
+use Rattle.std.specs.Prelude.{ℕ, ◌≤◌, ◌<◌, List, ◌≡◌, length, Some}
 use Rattle.ladder_text.specs.Rows.{row_text, verdict_text}
 use Rattle.ladder_text.specs.Place.{line_text}
 use Rattle.ladder_text.specs.Laws.{RowFits}
@@ -9,7 +9,6 @@ use Rattle.ladder_text.specs.declared.types.Verdict.{Verdict}
 use Rattle.ladder_run.specs.Row.{ROWS-MOST, COUNT-MOST, out_of}
 use Rattle.ladder_run.specs.Line.{line_of}
 use Rattle.ladder_run.specs.declared.types.Ladder.{Ladder}
-use Rattle.ladder_run.specs.declared.types.Due.TheVariants as due
 use Rattle.ladder_run.specs.declared.types.Line.TheVariants as line
 
 -- 5 digits, 5, 4 and 1; a fate of 5 letters; a receiver's word of 9; a tab or line feed behind each
@@ -27,7 +26,7 @@ pub record SmallRow (r : Row) : Type 0 where
 
 -- a frame asked for; fates, sent data, received data
 abbrev pub SmallOuts : Type 0
-SmallOuts = (l : Ladder) (fs d b : List ℕ) (r : Row) → (out_of l fs d b).due ≡ due.Row r → SmallRow r
+SmallOuts = (l : Ladder) (fs d b : List ℕ) (r : Row) → (out_of l fs d b).line ≡ Some r → SmallRow r
 
 -- a line
 abbrev pub SmallLines : Type 0

@@ -1,4 +1,5 @@
 // The fates of a ladder's frames: a byte a frame, the number of its fate.
+// They stay bytes: `fate_of`, `faults`, `next_line` and `verdict` take any list of bytes.
 ghost use Rattle.std.specs.Prelude.{◌≡◌};
 ghost use Rattle.ladder_run.specs.Fates.{fate_of, whole, fault, faults_of};
 
@@ -8,48 +9,34 @@ use ladder_text::Fate;
 pub fn fate_of(fates: &[u8], frame: u32) -> Fate
     ensures { result ≡ fate_of fates.now frame }
 {
-    let at = frame as usize;
-    if at < fates.len() {
-        return ladder_text::fate_at(fates[at]);
+    match fates.get(frame as usize) {
+        Some(&f) => ladder_text::fate_at(f),
+        None => Fate::Ok,
     }
-    Fate::Ok
 }
 
 // The frame arrives whole.
 pub(crate) fn is_whole(f: Fate) -> bool
     ensures { result ≡ whole f }
 {
-    match f {
-        Fate::Ok => true,
-        Fate::Noack => true,
-        Fate::Bad => false,
-        Fate::Nonak => false,
-        Fate::Lost => false,
-    }
+    matches!(f, Fate::Ok | Fate::Noack)
 }
 
 // 1 where the fate is not `ok`.
 pub(crate) fn fault(f: Fate) -> u32
     ensures { result ≡ fault f }
 {
-    match f {
-        Fate::Ok => 0,
-        Fate::Noack => 1,
-        Fate::Bad => 1,
-        Fate::Nonak => 1,
-        Fate::Lost => 1,
-    }
+    u32::from(!matches!(f, Fate::Ok))
 }
 
 // Of so many frames, those whose fate is not `ok`.
+#[tactic(auto, using(crate::proofs::InTurn::fault_most, crate::proofs::InTurn::faults_next))]
 pub fn faults(fates: &[u8], frames: u32) -> u32
     ensures { result ≡ faults_of fates.now frames }
 {
-    let mut n: u32 = 0;
-    let mut i: u32 = 0;
-    while i < frames {
+    let mut n = 0;
+    for i in 0..frames {
         n += fault(fate_of(fates, i));
-        i += 1;
     }
     n
 }

@@ -12,7 +12,4 @@ mod types;
 pub use fates::{fate_of, faults};
 pub use line::{next_line, verdict};
 pub use setup::set_up;
-pub use types::{
-    Arrived, Asked, Confirming, Due, Ladder, Line, Met, Next, Out, Receiving, Report, Sending,
-    Shown,
-};
+pub use types::{Confirming, Ladder, Line, Met, Next, Receiving, Report, Sending, Shown};

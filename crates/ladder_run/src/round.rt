@@ -1,59 +1,35 @@
 // The end of a round: "answers come in order, then a timeout if any is missing".
 ghost use Rattle.std.specs.Prelude.{◌≡◌, ◌-◌};
 ghost use Rattle.status.specs.Answer.{says};
-ghost use Rattle.ladder_run.specs.Ends.{asked};
-ghost use Rattle.ladder_run.specs.Round.{report_of, first_of, noted_of, misses_of, confirmed_by, confirmations_of, timed_out, opened_of, closed_of};
+ghost use Rattle.ladder_run.specs.Ends.{told, signalled_of};
+ghost use Rattle.ladder_run.specs.Round.{report_of, noted_of, confirmed_by, confirmations_of, timed_out, opened_of, closed_of};
 
-use crate::types::{Asked, Confirming, Ladder, Report, Sending};
+use crate::ends::Signal;
+use crate::types::{Confirming, Ladder, Report};
 use crate::{ends, fates};
 use ladder_text::Fate;
 use status::Answer;
 
 // What an answer reports, if anything.
-fn reports(a: Answer) -> Report
+fn reports(a: Answer) -> Option<Report>
     ensures { result ≡ report_of (says a) }
 {
     match a {
-        Answer::Delivered(n) => Report::Delivered(n),
-        Answer::Failed(why, n) => Report::Failed(why.number(), n),
-        _ => Report::Nothing,
+        Answer::Delivered(n) => Some(Report::Delivered(n)),
+        Answer::Failed(why, n) => Some(Report::Failed(why.number(), n)),
+        _ => None,
     }
 }
 
-// The first report stays.
-fn first(old: Report, new: Report) -> Report
-    ensures { result ≡ first_of old new }
+// The port as a signal leaves it, with what it reported. The first report stays.
+fn note(x: Confirming, g: Signal) -> Confirming
+    ensures { result ≡ noted_of x (signalled_of (told g) x.sending) }
 {
-    match old {
-        Report::Nothing => new,
-        Report::Delivered(n) => Report::Delivered(n),
-        Report::Failed(f, n) => Report::Failed(f, n),
-    }
-}
-
-// The port as a signal leaves it, with what it reported.
-fn note(x: Confirming, y: Asked) -> Confirming
-    ensures { result ≡ noted_of x (asked y) }
-{
-    let old = x.report;
-    let left = y.sending;
-    let answer = y.answer;
+    let y = ends::tell(x.sending, g);
     Confirming {
-        sending: left,
-        report: first(old, reports(answer)),
-        missing: x.missing,
-    }
-}
-
-fn miss(x: Confirming) -> Confirming
-    ensures { result ≡ misses_of x }
-{
-    let sending = x.sending;
-    let report = x.report;
-    Confirming {
-        sending: sending,
-        report: report,
-        missing: true,
+        sending: y.left,
+        report: x.report.or(reports(y.answer)),
+        ..x
     }
 }
 
@@ -61,65 +37,57 @@ fn miss(x: Confirming) -> Confirming
 fn confirm(x: Confirming, fate: Fate) -> Confirming
     ensures { result ≡ confirmed_by fate x }
 {
-    let sending = x.sending;
     match fate {
-        Fate::Ok => note(x, ends::ack(sending)),
-        Fate::Bad => note(x, ends::nak(sending)),
-        Fate::Noack => miss(x),
-        Fate::Nonak => miss(x),
-        Fate::Lost => miss(x),
+        Fate::Ok => note(x, Signal::Ack),
+        Fate::Bad => note(x, Signal::Nak),
+        Fate::Noack | Fate::Nonak | Fate::Lost => Confirming { missing: true, ..x },
     }
 }
 
 // The confirmations of the frames of a round, in order.
+#[tactic(auto, using(crate::proofs::InTurn::confirmations_next, crate::proofs::InTurn::confirmations_end))]
 fn confirmations(start: Confirming, fates: &[u8], from: u32, to: u32) -> Confirming
     ensures { result ≡ confirmations_of fates.now (to - from) from start }
 {
     let mut x = start;
-    let mut i = from;
-    while i < to {
+    for i in from..to {
         x = confirm(x, fates::fate_of(fates, i));
-        i += 1;
     }
     x
 }
 
 // "then a timeout if any is missing"
+#[tactic(auto, unfolding(status::specs::Pick::pick))]
 fn time_out(x: Confirming) -> Confirming
     ensures { result ≡ timed_out x }
 {
-    let sending = x.sending;
     if x.missing {
-        return note(x, ends::timeout(sending));
+        note(x, Signal::Timeout)
+    } else {
+        x
     }
-    x
 }
 
 fn opened(l: Ladder) -> Confirming
     ensures { result ≡ opened_of l }
 {
-    let sending = l.sending;
-    let report = l.report;
     Confirming {
-        sending: sending,
-        report: report,
+        sending: l.sending,
+        report: l.report,
         missing: false,
     }
 }
 
 // The round's confirmations and timeout.
+#[tactic(auto, unfolding(crate::specs::Round::closed_of))]
 pub(crate) fn close(l: Ladder, fates: &[u8]) -> Ladder
     ensures { result ≡ closed_of fates.now l }
 {
-    let receiving = l.receiving;
     let x = time_out(confirmations(opened(l), fates, l.before, l.frames));
-    let sending = x.sending;
-    let report = x.report;
     Ladder {
-        sending: sending,
-        receiving: receiving,
-        frames: l.frames,
+        sending: x.sending,
         before: l.frames,
-        report: report,
+        report: x.report,
+        ..l
     }
 }

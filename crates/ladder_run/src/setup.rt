@@ -5,7 +5,7 @@ ghost use Rattle.ladder_run.specs.Setup.{transfer_of, fresh, exchanged, ready_se
 ghost use Rattle.ladder_text.specs.declared.types.Direction.TheVariants as direction;
 
 use crate::row;
-use crate::types::{Ladder, Receiving, Report, Sending};
+use crate::types::{Ladder, Receiving, Sending};
 use initiator::Writer;
 use ladder_text::{Direction, Run};
 use status::Refusal;
@@ -16,14 +16,14 @@ fn transfer(r: Run, write: bool, local: u32, remote: u32) -> Transfer
     ensures { result ≡ transfer_of r write local remote }
 {
     Transfer {
-        write: write,
+        write,
         count: r.count,
         size: r.size,
         window: r.window,
         limit: r.limit,
         burst: r.count,
-        local: local,
-        remote: remote,
+        local,
+        remote,
         tag: Ladder::TAG,
         sas2: false,
         value: 0,
@@ -41,7 +41,7 @@ fn fresh(s: Sending, r: Receiving) -> Ladder
         receiving: r,
         frames: 0,
         before: 0,
-        report: Report::Nothing,
+        report: None,
     }
 }
 
@@ -56,13 +56,14 @@ fn read(r: Run) -> Result<Ladder, Refusal>
 }
 
 // The XFER_RDY of the one burst: handed out, taken, acknowledged.
+#[tactic(auto, unfolding(crate::specs::Setup::exchanged))]
 fn exchange(w: Writer, y: Target) -> Ladder
     ensures { result ≡ exchanged w y }
 {
     let mut area = [0; 1048];
     let issued = target::write_next_frame(y, &mut area);
-    let n = row::handed(issued.answer);
-    let taken = initiator::write_frame_received(w, &area[0..n]);
+    let n = row::handed(issued.answer).unwrap_or(0);
+    let taken = initiator::write_frame_received(w, &area[..n]);
     let acked = target::write_ack_received(issued.left);
     fresh(Sending::Write(taken.left), Receiving::Write(acked.left))
 }
@@ -78,14 +79,14 @@ fn write(r: Run) -> Result<Ladder, Refusal>
 }
 
 // Line one of a run file: 1, else the ladder at its start.
+#[tactic(auto, unfolding(crate::specs::Setup::set_up_of, status::specs::Pick::pick))]
 pub fn set_up(r: Run) -> Result<Ladder, Refusal>
     ensures { or_refusal result ≡ set_up_of r }
 {
     if Ladder::COUNT_MOST < r.count {
         return Err(Refusal::BadRequest);
     }
-    let d = r.direction;
-    match d {
+    match r.direction {
         Direction::Read => read(r),
         Direction::Write => write(r),
     }

@@ -3,7 +3,6 @@ use initiator::Writer;
 use ladder_text::{Row, Verdict};
 use receiver::Receiver;
 use sender::Sender;
-use status::{Answer, Refusal};
 use target::Target;
 
 // The port that sends: a read's at the target, a write's at the initiator.
@@ -21,9 +20,9 @@ pub enum Receiving {
 }
 
 // What the sending port has reported: its number, and the frames that it handed out.
+// A failure stays a number: `Ladder` is public, and `next_line` and `verdict` take each u8 in it.
 #[derive(Clone, Copy)]
 pub enum Report {
-    Nothing,
     Delivered(u64),
     Failed(u8, u64),
 }
@@ -35,7 +34,8 @@ pub struct Ladder {
     // frames handed out; those before this round
     pub frames: u32,
     pub before: u32,
-    pub report: Report,
+    // the first report, once there is one
+    pub report: Option<Report>,
 }
 
 impl Ladder {
@@ -54,20 +54,6 @@ impl Ladder {
     pub const TARGET: u32 = 0xab_cdef;
 
     pub const TAG: u16 = 0x0012;
-}
-
-// What a call on the sending port leaves and answers.
-#[derive(Clone, Copy)]
-pub struct Asked {
-    pub sending: Sending,
-    pub answer: Answer,
-}
-
-// What an arrival leaves and answers.
-#[derive(Clone, Copy)]
-pub struct Arrived {
-    pub receiving: Receiving,
-    pub answer: Answer,
 }
 
 // What a frame says of itself.
@@ -89,21 +75,8 @@ pub struct Met {
 #[derive(Clone, Copy)]
 pub struct Confirming {
     pub sending: Sending,
-    pub report: Report,
+    pub report: Option<Report>,
     pub missing: bool,
-}
-
-// A frame that was handed out, or none was due.
-#[derive(Clone, Copy)]
-pub enum Due {
-    Row(Row),
-    Nothing,
-}
-
-#[derive(Clone, Copy)]
-pub struct Out {
-    pub ladder: Ladder,
-    pub due: Due,
 }
 
 // A line of a ladder.
@@ -113,8 +86,9 @@ pub enum Line {
     Verdict(Verdict),
 }
 
+// What is left of a ladder, and what it tells.
 #[derive(Clone, Copy)]
-pub struct Next {
+pub struct Next<L> {
     pub ladder: Ladder,
-    pub line: Line,
+    pub line: L,
 }

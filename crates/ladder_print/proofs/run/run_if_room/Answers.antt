@@ -9,14 +9,14 @@ use Rattle.ladder_print.proofs.Tried.{tries_as, tries_text}
 use Rattle.ladder_print.proofs.run.run_if_room.Goals as goal
 use Rattle.status.specs.Result.{or_refusal}
 
-pub returns-in-Refused : goal.returns-in-Refused
-returns-in-Refused c =
+pub returns-in-Err : goal.returns-in-Err
+returns-in-Err c =
     tries_as
-    (ap (λ (o : Result Ladder). set_up_text o c.args.r.count (map fate_number (fates_at c.args.input.now c.args.at))) (sym (ap or_refusal c.in-Refused.is) ∙ c.set_up.ensures))
+    (ap (λ (o : Result Ladder). set_up_text o c.args.r.count (map fate_number (fates_at c.args.input.now c.args.at))) (sym (ap or_refusal c.in-Err.is) ∙ c.set_up.ensures))
     (tries_text c.refused.ensures.0 c.refused.ensures.1)
 
-pub returns-in-Ready : goal.returns-in-Ready
-returns-in-Ready c =
+pub returns-in-Ok : goal.returns-in-Ok
+returns-in-Ok c =
     tries_as
-    (ap (λ (o : Result Ladder). set_up_text o c.args.r.count (map fate_number (fates_at c.args.input.now c.args.at))) (sym (ap or_refusal c.in-Ready.is) ∙ c.set_up.ensures))
+    (ap (λ (o : Result Ladder). set_up_text o c.args.r.count (map fate_number (fates_at c.args.input.now c.args.at))) (sym (ap or_refusal c.in-Ok.is) ∙ c.set_up.ensures))
     c.from_start_if_room.ensures

@@ -6,6 +6,3 @@ use Rattle.ladder_run.proofs.round.confirmations.Given as goal
 
 abbrev pub invariant-loop-i : goal.invariant-loop-i
 invariant-loop-i l = confirmations_of l.fates (l.to - l.i) l.i l.x ≡ confirmations_of l.fates (l.to - l.from) l.from l.initial.x
-
-abbrev pub decreases-loop-i : goal.decreases-loop-i
-decreases-loop-i l = l.to - l.i

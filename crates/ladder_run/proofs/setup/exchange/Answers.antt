@@ -1,16 +1,17 @@
 use mathlib.Core.Path.{ap, ◌∙◌}
+use Rattle.std.specs.Prelude.{ℕ, Option, unwrap_or}
 use Rattle.status.specs.Answer.{Left}
-use Rattle.ladder_run.specs.Row.{handed}
 use Rattle.target.specs.declared.types.Target.{Target}
-use Rattle.ladder_run.proofs.Handed.{issued_most}
-use Rattle.ladder_run.proofs.Readied.{exchange_is}
+use Rattle.ladder_run.proofs.Handed.{handed_length, issued_most}
 use borrow.Author.Rules.{rules}
 use Rattle.ladder_run.proofs.setup.exchange.Goals as goal
 
-pub slice_bounds-write_frame_received-end : goal.slice_bounds-write_frame_received-end
-slice_bounds-write_frame_received-end c =
-    let most = issued_most c.args.y (c.handed-n.ensures ∙ ap (λ (x : Left Target). handed x.says) c.write_next_frame-issued.ensures.0) in
+pub slice_bounds-area-end : goal.slice_bounds-area-end
+slice_bounds-area-end c =
+    let most = issued_most c.args.y ((c.unwrap_or-n.ensures ∙ ap (λ (x : Option ℕ). unwrap_or x 0) c.handed.ensures) ∙ ap (λ (x : Left Target). handed_length x.says) c.write_next_frame-issued.ensures.0) in
     search rules
 
-pub returns : goal.returns
-returns c = exchange_is c.args.w c.args.y c.write_next_frame-issued.result c.write_frame_received-taken.result c.write_ack_received-acked.result c.write_next_frame-issued.ensures.0 c.write_next_frame-issued.ensures.1 c.handed-n.ensures c.write_frame_received-taken.ensures.0 c.write_ack_received-acked.ensures c.fresh.ensures
+pub slice_bounds-write_frame_received-end : goal.slice_bounds-write_frame_received-end
+slice_bounds-write_frame_received-end c =
+    let most = issued_most c.args.y ((c.unwrap_or-n.ensures ∙ ap (λ (x : Option ℕ). unwrap_or x 0) c.handed.ensures) ∙ ap (λ (x : Left Target). handed_length x.says) c.write_next_frame-issued.ensures.0) in
+    search rules
