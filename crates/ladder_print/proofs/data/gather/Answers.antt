@@ -17,7 +17,7 @@ loop-at-smaller c =
     omega arith
 
 pub loop-at-preserved : goal.loop-at-preserved
-loop-at-preserved c = gathering_next c.loop-at.invariant c.requires c.loop-at-test.true c.next_fate-f.ensures c.fate_number.ensures
+loop-at-preserved c = gathering_next c.loop-at.invariant c.requires c.loop-at-test.true c.next_fate-f.ensures c.from.ensures
 
 pub returns : goal.returns
 returns c = gathered c.loop-at.invariant c.requires c.loop-at-test.false
