@@ -2,11 +2,11 @@
 use Rattle.std.specs.Prelude.{Option, Some, None}
 use Prim.Native.Nat.{ℕ, ◌+◌, ◌≤◌, ◌<◌}
 use mathlib.Core.Bool.{Bool, true, false}
-use mathlib.Core.List.{List, [], ◌++◌, append-nil}
+use mathlib.Core.List.{List, [], ◌++◌}
 use mathlib.Core.Path.{◌≡◌, refl, sym, ap, subst, ◌∙◌}
 use native.Mathlib.Nat.{zero-add}
 use native.Mathlib.Omega.{arith}
-use lib.ListN.{length, take, drop, length-append, drop_of_length-le}
+use lib.ListN.{length, take, drop, length-append}
 use lib.Seq.{take_at}
 use borrow.Author.Tests.{leb-true, leb-false}
 use Rattle.ladder_text.specs.Place.{placed, Puts, Placed, has_room}
@@ -60,12 +60,6 @@ front_more {d} {t} {at} {e} u {n} {c} f m h =
 -- all of it is the text's
 pub front_puts : {d t : List ℕ} {at : ℕ} {e : List ℕ} → Front d t at e → Puts d 0 t at e
 front_puts {d} {t} f = (f.place ∙ sym (zero-add (length t)), f.is)
-
-pub front_whole : {d t : List ℕ} {at : ℕ} {e : List ℕ} → Front d t at e → length d ≤ at → e ≡ t
-unfolding placed
-front_whole {d} {t} f m =
-    let short : length d ≤ 0 + length t = omega (arith, f.place) in
-    f.is ∙ ap (λ (v : List ℕ). t ++ v) (drop_of_length-le d short) ∙ append-nil t
 
 -- the front of what was d
 pub front_taken : {d t : List ℕ} {at : ℕ} {e : List ℕ} → Front d t at e → take at e ≡ t

@@ -6,10 +6,12 @@ ghost use Rattle.ladder_text.specs.Place.{placed};
 ghost use Rattle.ladder_print.specs.Text.{data_of};
 
 // The numbers of the fates from place `from` of the input on; how many there are.
+#[tactic(auto, using(crate::proofs::Filled::gathering_first, crate::proofs::Filled::next_later, crate::proofs::Filled::gathering_next))]
 pub(crate) fn gather(input: &[u8], from: usize, fates: &mut [u8]) -> usize
     requires { length (fates_at input.now from) ≤ length fates.old }
     ensures { (result ≡ length (fates_at input.now from)) × (fates.new ≡ placed fates.old 0 (map fate_number (fates_at input.now from))) }
 {
+    // A `for` over `fates` is no plainer: it ends where the buffer is full, too, and counts there once more.
     let mut at = from;
     let mut n = 0;
     while at < input.len() {

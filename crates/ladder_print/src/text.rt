@@ -17,6 +17,7 @@ fn refuse(m: Misfit, out: &mut [u8]) -> Option<usize>
 
 // Any input, any buffer: the ladder, or the line that does not fit, at the front of the buffer; how many bytes.
 // `None` where the buffer is shorter than `TEXT_MOST`: then it is left as it was.
+#[tactic(auto, using(crate::proofs::Tried::printed, crate::proofs::Tried::tries_as))]
 pub fn print_ladder(input: &[u8], out: &mut [u8]) -> Option<usize>
     ensures { Prints (text_of input.now) out.old result out.new }
 {
@@ -30,6 +31,7 @@ pub fn print_ladder(input: &[u8], out: &mut [u8]) -> Option<usize>
 }
 
 // The same line by line, as far as there is room.
+#[tactic(auto, using(crate::proofs::Tried::tries_as))]
 fn whole(input: &[u8], out: &mut [u8]) -> Option<usize>
     ensures { Tries (text_of input.now) out.old result out.new }
 {
