@@ -4,21 +4,14 @@
 ghost use Rattle.std.specs.Prelude.{◌≡◌, ◌≤◌, length, take};
 ghost use Rattle.std.specs.Io.KnownBytes.{Consumes};
 
-use ladder_print::Printed;
+use ladder_print::TEXT_MOST;
 use std::io::{ErrorKind, Read, Write};
 
-// One byte more than is taken, so that too long an input is seen.
-fn input_buffer() -> [u8; 65_537]
-    ensures { 65_537 ≡ length result }
+// A buffer, zeroed.
+fn buffer<const N: usize>() -> [u8; N]
+    ensures { N ≡ length result }
 {
-    [0; 65_537]
-}
-
-// Room for every ladder (`ladder_print::TEXT_MOST`).
-fn text_buffer() -> [u8; 1_340_284]
-    ensures { 1_340_284 ≡ length result }
-{
-    [0; 1_340_284]
+    [0; N]
 }
 
 // Reads until the buffer is full or the input ends, a failed read being the end; how many bytes.
@@ -46,17 +39,15 @@ fn read_full<R: Read>(from: &mut R, buf: &mut [u8]) -> usize
 
 // A failed write is not reported.
 fn write_whole(to: &mut impl Write, text: &[u8]) {
-    match to.write_all(text) {
-        Ok(()) => {}
-        Err(_) => {}
-    }
+    let _ = to.write_all(text);
 }
 
 fn main(rt: HostRuntime) {
-    let mut input = input_buffer();
+    // one byte more than is taken, so that too long an input is seen
+    let mut input: [u8; 65_537] = buffer();
     let n = read_full(&mut rt.stdin(), &mut input);
-    let mut out = text_buffer();
-    let Printed::Text(len) = ladder_print::print_ladder(&input[..n], &mut out) else {
+    let mut out: [u8; TEXT_MOST] = buffer();
+    let Some(len) = ladder_print::print_ladder(&input[..n], &mut out) else {
         return;
     };
     write_whole(&mut rt.stdout(), &out[..len]);

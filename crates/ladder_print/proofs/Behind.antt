@@ -1,26 +1,34 @@
 -- Text put down behind text, at the front of a buffer.
-use Prim.Native.Nat.{ℕ, ◌+◌, ◌≤◌}
-use mathlib.Core.Bool.{Bool, true}
-use mathlib.Core.List.{List, [], ◌++◌, append-nil}
+use Rattle.std.specs.Prelude.{Option, Some, None}
+use Prim.Native.Nat.{ℕ, ◌+◌, ◌≤◌, ◌<◌}
+use mathlib.Core.Bool.{Bool, true, false}
+use mathlib.Core.List.{List, [], ◌++◌}
 use mathlib.Core.Path.{◌≡◌, refl, sym, ap, subst, ◌∙◌}
 use native.Mathlib.Nat.{zero-add}
 use native.Mathlib.Omega.{arith}
-use lib.ListN.{length, take, drop, length-append, drop_of_length-le}
+use lib.ListN.{length, take, drop, length-append}
 use lib.Seq.{take_at}
-use borrow.Author.Tests.{le-leb}
+use borrow.Author.Tests.{leb-true, leb-false}
 use Rattle.ladder_text.specs.Place.{placed, Puts, Placed, has_room}
-use Rattle.ladder_text.specs.declared.types.Put.{Put}
-use Rattle.ladder_text.specs.declared.types.Put.TheVariants.{At, NoRoom}
 use Rattle.ladder_text.specs.Pick as text
 use Rattle.ladder_text.proofs.Place.{placed_length, placed_more}
-use Rattle.ladder_print.specs.Put.{behind_of}
 
--- a public printer that has room
-pub put_room : (d : List ℕ) (at : ℕ) (t : List ℕ) {p : Put} {n : ℕ} {e : List ℕ} → at + 64 ≤ length d → Placed d at t p e → n ≡ behind_of p at → Puts d at t n e
+-- ── what a public printer answers: the place behind the text, or that there is no room ──
+pub put_room : (d : List ℕ) (at : ℕ) (t : List ℕ) {p : Option ℕ} {n : ℕ} {e : List ℕ} → Placed d at t p e → p ≡ Some n → (at + 64 ≤ length d) × Puts d at t n e
 unfolding text.pick
-put_room d at t room h q =
-    let r : has_room (length d) at ≡ true = le-leb (at + 64) (length d) room in
-    (q ∙ ap (λ (v : Put). behind_of v at) h.0 ∙ ap (λ (b : Bool). behind_of (text.pick b (At (at + length t)) NoRoom) at) r, h.1 ∙ ap (λ (b : Bool). text.pick b (placed d at t) d) r)
+put_room d at t {p} {n} {e} q h = go (has_room (length d) at) refl q.0 q.1
+  where
+    go : (b : Bool) → has_room (length d) at ≡ b → p ≡ text.pick b (Some (at + length t)) None → e ≡ text.pick b (placed d at t) d → (at + 64 ≤ length d) × Puts d at t n e
+    go true f a l = let same : Some n ≡ Some (at + length t) = sym h ∙ a in (leb-true (at + 64) (length d) f, (cc, l))
+    go false f a l = let none : Some n ≡ None = sym h ∙ a in absurd cc
+
+pub put_short : (d : List ℕ) (at : ℕ) (t : List ℕ) {p : Option ℕ} {e : List ℕ} → Placed d at t p e → p ≡ None → length d < at + 64
+unfolding text.pick
+put_short d at t {p} {e} q h = go (has_room (length d) at) refl q.0
+  where
+    go : (b : Bool) → has_room (length d) at ≡ b → p ≡ text.pick b (Some (at + length t)) None → length d < at + 64
+    go true f a = let some : None ≡ Some (at + length t) = sym h ∙ a in absurd cc
+    go false f a = leb-false (at + 64) (length d) f
 
 -- another text that is the same
 pub puts_as : (d : List ℕ) (i : ℕ) {t u : List ℕ} {n : ℕ} {e : List ℕ} → t ≡ u → Puts d i t n e → Puts d i u n e
@@ -52,12 +60,6 @@ front_more {d} {t} {at} {e} u {n} {c} f m h =
 -- all of it is the text's
 pub front_puts : {d t : List ℕ} {at : ℕ} {e : List ℕ} → Front d t at e → Puts d 0 t at e
 front_puts {d} {t} f = (f.place ∙ sym (zero-add (length t)), f.is)
-
-pub front_whole : {d t : List ℕ} {at : ℕ} {e : List ℕ} → Front d t at e → length d ≤ at → e ≡ t
-unfolding placed
-front_whole {d} {t} f m =
-    let short : length d ≤ 0 + length t = omega (arith, f.place) in
-    f.is ∙ ap (λ (v : List ℕ). t ++ v) (drop_of_length-le d short) ∙ append-nil t
 
 -- the front of what was d
 pub front_taken : {d t : List ℕ} {at : ℕ} {e : List ℕ} → Front d t at e → take at e ≡ t

@@ -1,12 +1,13 @@
 -- Lines printed one below the other: what stands printed, and what is still to come, is the whole ladder.
+use Rattle.std.specs.Prelude.{Option, Some, None}
 use Prim.Native.Nat.{ℕ, zero, suc, ◌+◌, ◌-◌, ◌*◌, ◌≤◌, ◌<◌}
 use mathlib.Core.List.{List, [], ◌∷◌, ◌++◌, map, append_assoc, append-nil}
-use mathlib.Core.Path.{◌≡◌, refl, sym, ap, ◌∙◌}
+use mathlib.Core.Path.{◌≡◌, refl, sym, ap, subst, ◌∙◌}
 use native.Mathlib.Omega.{arith}
 use lib.ListN.{length, length-append}
 use Rattle.ladder_text.specs.Text.{LF, unlines}
 use Rattle.ladder_text.specs.Rows.{row_text, verdict_text}
-use Rattle.ladder_text.specs.Place.{Puts, line_text}
+use Rattle.ladder_text.specs.Place.{Puts, Placed, line_text}
 use Rattle.ladder_text.specs.declared.types.Row.{Row}
 use Rattle.ladder_text.specs.declared.types.Verdict.{Verdict}
 use Rattle.ladder_text.proofs.Joined.{lines_behind}
@@ -19,7 +20,9 @@ use Rattle.ladder_run.specs.declared.types.Line.TheVariants as line
 use Rattle.ladder_run.specs.declared.types.Next.{Next}
 use Rattle.ladder_run.proofs.Small.{small_lines}
 use Rattle.ladder_print.specs.Text.{whole_text}
-use Rattle.ladder_print.proofs.Behind.{Front, front_none, front_more, front_puts, front_length, puts_as}
+use Rattle.ladder_print.specs.Room.{Tries}
+use Rattle.ladder_print.proofs.Tried.{tries_text, tries_short}
+use Rattle.ladder_print.proofs.Behind.{put_room, put_short, Front, front_none, front_more, front_puts, front_length, puts_as}
 
 abbrev pub rows_text : List Row → List ℕ
 rows_text rs = unlines (map row_text rs)
@@ -84,6 +87,12 @@ module _ {fs d out₀ : List ℕ} {w : Whole} {b out : List ℕ} {l : Ladder} {a
           within = omega (arith, short, q.0, out_length);
         }
 
+    -- a row was put behind the others: `k` lines are left
+    pub climbing_next : (k : ℕ) → left ≡ k + 1 → {r : Row} {a : Option ℕ} {n : ℕ} {e : List ℕ} → x.line ≡ line.Row r → Placed out at (line_text (row_text r)) a e → a ≡ Some n → Climbing fs d out₀ w c e x.ladder n k
+    climbing_next k z {r} {a} {n} {e} p q s =
+        let h = put_room out at (line_text (row_text r)) q s in
+        subst (λ (j : ℕ). Climbing fs d out₀ w c e x.ladder n j) (omega (arith, z)) (climbing_row_if_room h.0 p h.1)
+
     -- the ladder is over
     pub climbing_over : {v : Verdict} → x.line ≡ line.Verdict v → Climbing fs d out₀ w c out x.ladder at 0
     climbing_over p =
@@ -97,6 +106,10 @@ module _ {fs d out₀ : List ℕ} {w : Whole} {b out : List ℕ} {l : Ladder} {a
           within = g.within;
         }
 
+  -- it has no room
+  pub climbing_stuck : (r : Row) {a b : Option ℕ} {c e : List ℕ} → Placed out at (line_text (row_text r)) a c → a ≡ None → b ≡ None → Tries (whole_text fs w) out₀ b e
+  climbing_stuck r {b = b} {e = e} q s p = subst (λ (v : Option ℕ). Tries (whole_text fs w) out₀ v e) (sym p) (tries_short (climbing_short (put_short out at (line_text (row_text r)) q s)))
+
   -- no line is to come: the verdict
   pub climbed_if_room : {v : Verdict} {n : ℕ} {e : List ℕ} → left ≡ 0 → v ≡ verdict_of fs l → at + length (line_text (verdict_text v)) ≤ length out → Puts out at (line_text (verdict_text v)) n e → Puts out₀ 0 (whole_text fs w) n e
   climbed_if_room {v} z p m q =
@@ -106,6 +119,13 @@ module _ {fs d out₀ : List ℕ} {w : Whole} {b out : List ℕ} {l : Ladder} {a
       let whole : g.text ++ line_text (verdict_text v) ≡ whole_text fs w =
       (λ i. rows i ++ line_text (verdict_text ((p ∙ ap (verdict_of fs) last) i))) ∙ sym (lines_behind (map row_text w.rows) (verdict_text (verdict_of fs w.last) ∷ [])) in
       puts_as out₀ 0 whole (front_puts (front_more (line_text (verdict_text v)) g.front (omega (arith, out_length)) q))
+
+  -- the verdict is put behind the rows, or has no room
+  pub climbed_tries : {v : Verdict} {r : Option ℕ} {e : List ℕ} → left ≡ 0 → v ≡ verdict_of fs l → length (line_text (verdict_text v)) ≤ 64 → Placed out at (line_text (verdict_text v)) r e → Tries (whole_text fs w) out₀ r e
+  climbed_tries {v} {r = Some n} z p m q =
+      let h = put_room out at (line_text (verdict_text v)) q refl in
+      tries_text (climbed_if_room z p (omega arith) h.1) (omega (arith, h.1.0, g.room))
+  climbed_tries {v} {r = None} z p m q = tries_short (climbing_short (put_short out at (line_text (verdict_text v)) q refl))
 
 -- the same with room for every ladder
 module _ {fs d out₀ : List ℕ} {w : Whole} {b out : List ℕ} {l : Ladder} {at left : ℕ} (g : Climbing fs d out₀ w b out l at left) (enough : 1_340_284 ≤ length out₀) where

@@ -1,12 +1,13 @@
 -- The buffers of a run: the bytes sent, the fates' numbers.
-use Prim.Native.Nat.{ℕ, zero, suc, ◌+◌, ◌-◌, ◌%◌, ◌≤◌, ◌<◌}
+use Prim.Native.Nat.{ℕ, zero, suc, ◌+◌, ◌%◌, ◌≤◌, ◌<◌}
 use mathlib.Core.List.{List, [], ◌∷◌, ◌++◌, map, append_assoc, append-nil}
 use mathlib.Core.Path.{◌≡◌, refl, sym, ap, ◌∙◌}
-use native.Mathlib.Nat.{sub-zero, zero-add}
-use native.Mathlib.Numerals.{add-one}
+use native.Mathlib.Nat.{zero-add}
 use native.Mathlib.Omega.{arith}
 use borrow.Author.Tests.{lt-ltb}
-use lib.ListN.{length, take, drop, set, replicate, length-append, length-replicate, replicate-append-replicate}
+use Rattle.std.proofs.lemmas.Grind.{same_number_lists}
+use Rattle.std.proofs.lemmas.List.{take-replicate}
+use lib.ListN.{length, take, drop, set, get_or, replicate, length-append, length-replicate}
 use Rattle.ladder_text.specs.Pick as text
 use Rattle.ladder_text.specs.Text.{LF, before}
 use Rattle.ladder_text.specs.Words.{fate_number, fate_of}
@@ -22,38 +23,28 @@ use Rattle.ladder_print.specs.Text.{bytes_from, data_of, whole_text, start_text}
 use Rattle.ladder_print.proofs.Behind.{Front, front_none, front_length, front_more, front_taken}
 
 -- ── the bytes sent ──
-pub bytes_length : (i n : ℕ) → length (bytes_from i n) ≡ n
+bytes_length : (i n : ℕ) → length (bytes_from i n) ≡ n
 bytes_length i zero = refl
 bytes_length i (suc n) = ap suc (bytes_length (i + 1) n)
 
-bytes_one_more : (i n : ℕ) → bytes_from i (suc n) ≡ bytes_from i n ++ ((i + n) % 256 ∷ [])
-bytes_one_more i zero = ap (λ (v : ℕ). v % 256 ∷ []) (omega arith)
-bytes_one_more i (suc n) = ap (λ (l : List ℕ). i % 256 ∷ l) (bytes_one_more (i + 1) n ∙ ap (λ (v : ℕ). bytes_from (i + 1) n ++ (v % 256 ∷ [])) (sums))
-  where
-    sums : i + 1 + n ≡ i + suc n
-    sums = omega arith
+bytes_at : (i n k : ℕ) → k < n → get_or (bytes_from i n) k 0 ≡ (i + k) % 256
+bytes_at i zero k h = absurd (omega arith)
+bytes_at i (suc n) zero h = ap (λ (v : ℕ). v % 256) (omega arith)
+bytes_at i (suc n) (suc k) h = bytes_at (i + 1) n k (omega arith) ∙ ap (λ (v : ℕ). v % 256) (omega arith)
 
-pub data_next : (n : ℕ) → data_of n ++ (n % 256 ∷ []) ≡ data_of (n + 1)
-data_next n = ap (λ (v : ℕ). data_of n ++ (v % 256 ∷ [])) (sym (zero-add n)) ∙ sym (bytes_one_more 0 n) ∙ ap data_of (sym (add-one n))
+-- each byte is set
+pub filled : (d : List ℕ) (n : ℕ) → length d ≡ n → ((k : ℕ) → k < n → get_or d k 0 ≡ k % 256) → d ≡ data_of n
+filled d n l h =
+    same_number_lists d (data_of n) (omega (arith, l, bytes_length 0 n))
+    (λ k m. h k (omega (arith, l)) ∙ ap (λ (v : ℕ). v % 256) (sym (zero-add k)) ∙ sym (bytes_at 0 n k (omega (arith, l))))
 
 bytes_taken : (i n m : ℕ) → n ≤ m → take n (bytes_from i m) ≡ bytes_from i n
 bytes_taken i zero m h = refl
 bytes_taken i (suc n) zero h = absurd (omega arith)
 bytes_taken i (suc n) (suc m) h = ap (λ (l : List ℕ). i % 256 ∷ l) (bytes_taken (i + 1) n m (omega arith))
 
-pub data_taken : (n m : ℕ) {d : List ℕ} → n ≤ m → d ≡ data_of m → take (n - 0) d ≡ data_of n
-data_taken n m {d} h p = (λ i. take (sub-zero n i) (p i)) ∙ bytes_taken 0 n m h
-
-zeros_taken : (n m : ℕ) → n ≤ m → take n (replicate {A = ℕ} m 0) ≡ replicate n 0
-zeros_taken zero m h = refl
-zeros_taken (suc n) zero h = absurd (omega arith)
-zeros_taken (suc n) (suc m) h = ap (λ (l : List ℕ). 0 ∷ l) (zeros_taken n m (omega arith))
-
-pub room_taken : (n m : ℕ) → n ≤ m → take (n - 0) (replicate {A = ℕ} m 0) ≡ replicate n 0
-room_taken n m h = ap (λ (v : ℕ). take v (replicate {A = ℕ} m 0)) (sub-zero n) ∙ zeros_taken n m h
-
-pub zeros_next : (n : ℕ) → replicate {A = ℕ} n 0 ++ (0 ∷ []) ≡ replicate (n + 1) 0
-zeros_next n = replicate-append-replicate n 1 0
+pub data_taken : (n m : ℕ) {d : List ℕ} → n ≤ m → d ≡ data_of m → take n d ≡ data_of n
+data_taken n m h p = ap (take n) p ∙ bytes_taken 0 n m h
 
 -- a byte more at the front of a buffer
 pub front_byte : {d t : List ℕ} {at : ℕ} {e : List ℕ} (x : ℕ) → Front d t at e → at < length d → length e ≡ length d → Front d (t ++ (x ∷ [])) (at + 1) (set e at x)
@@ -116,9 +107,8 @@ module _ {b : List ℕ} {from : ℕ} {fates₀ fates : List ℕ} {at n : ℕ} (g
       (g.front.place ∙ ap length e ∙ numbers_length (fates_at b from), g.front.is ∙ ap (placed fates₀ 0) e)
 
 -- the part of the buffer that has them
-pub gathered_taken : (fs : List Fate) (d : List ℕ) {n : ℕ} {e : List ℕ} → n ≡ length fs → e ≡ placed d 0 (map fate_number fs) → take (n - 0) e ≡ map fate_number fs
-gathered_taken fs d {n} {e} p q =
-    ap (λ (v : ℕ). take v e) (sub-zero n) ∙ front_taken {d = d} (record { place = p ∙ sym (numbers_length fs); is = q })
+pub gathered_taken : (fs : List Fate) (d : List ℕ) {n : ℕ} {e : List ℕ} → n ≡ length fs → e ≡ placed d 0 (map fate_number fs) → take n e ≡ map fate_number fs
+gathered_taken fs d p q = front_taken {d = d} (record { place = p ∙ sym (numbers_length fs); is = q })
 
 -- the fates, the data sent and the data received as a run is lent them
 pub lent_text : (l : Ladder) (n : ℕ) (fs : List ℕ) {f d b : List ℕ} → f ≡ fs → d ≡ data_of n → b ≡ replicate n 0 → whole_text f (whole_of f d l b) ≡ start_text l n fs
@@ -126,5 +116,5 @@ unfolding start_text
 lent_text l n fs p q r i = whole_text (p i) (whole_of (p i) (q i) l (r i))
 
 -- buffers of k fates and of m bytes
-pub in_buffers : (k m n : ℕ) (l : Ladder) (fs : List Fate) {j : ℕ} {f d : List ℕ} → n ≤ m → (j ≡ length fs) × (f ≡ placed (replicate k 0) 0 (map fate_number fs)) → d ≡ data_of (length (replicate {A = ℕ} m 0)) → whole_text (take (j - 0) f) (whole_of (take (j - 0) f) (take (n - 0) d) l (take (n - 0) (replicate m 0))) ≡ start_text l n (map fate_number fs)
-in_buffers k m n l fs h p q = lent_text l n (map fate_number fs) (gathered_taken fs (replicate k 0) p.0 p.1) (data_taken n m h (q ∙ ap data_of (length-replicate {A = ℕ} m 0))) (room_taken n m h)
+pub in_buffers : (k m n : ℕ) (l : Ladder) (fs : List Fate) {j : ℕ} {f d : List ℕ} → n ≤ m → (j ≡ length fs) × (f ≡ placed (replicate k 0) 0 (map fate_number fs)) → d ≡ data_of (length (replicate {A = ℕ} m 0)) → whole_text (take j f) (whole_of (take j f) (take n d) l (take n (replicate m 0))) ≡ start_text l n (map fate_number fs)
+in_buffers k m n l fs h p q = lent_text l n (map fate_number fs) (gathered_taken fs (replicate k 0) p.0 p.1) (data_taken n m h (q ∙ ap data_of (length-replicate {A = ℕ} m 0))) (take-replicate n m 0 h)

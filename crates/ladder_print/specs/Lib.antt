@@ -1,3 +1,3 @@
-pub mod Put
 pub mod Text
 pub mod Room
+pub mod Start

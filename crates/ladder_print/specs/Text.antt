@@ -1,5 +1,6 @@
 -- The text of a run file's ladder, of any input.
-use Rattle.std.specs.Prelude.{ℕ, zero, suc, ◌+◌, ◌%◌, ◌≤◌, List, [], ◌∷◌, map, ◌≡◌, length, replicate, leb}
+use Rattle.std.specs.Prelude.{ℕ, zero, suc, ◌+◌, ◌%◌, ◌≤◌, List, [], ◌∷◌, map, ◌≡◌, length, replicate, leb, Option, Some, None, Ok, Err}
+use Rattle.std.specs.Prelude as code
 use Rattle.status.specs.Pick.{pick}
 use Rattle.status.specs.Result.{Result}
 use Rattle.ladder_text.specs.Words.{fate_number}
@@ -7,13 +8,11 @@ use Rattle.ladder_text.specs.Rows.{ladder_text, refused_text}
 use Rattle.ladder_text.specs.Place.{placed, line_text}
 use Rattle.ladder_text.specs.RunFile.{file_of, fates_at}
 use Rattle.ladder_text.specs.declared.types.RunFile.{RunFile}
-use Rattle.ladder_text.specs.declared.types.RunFile.TheVariants as file
+use Rattle.ladder_text.specs.declared.types.Misfit.{Misfit}
 use Rattle.ladder_run.specs.Line.{verdict_of}
 use Rattle.ladder_run.specs.Whole.{Whole, whole_of}
 use Rattle.ladder_run.specs.Setup.{set_up_of}
 use Rattle.ladder_run.specs.declared.types.Ladder.{Ladder}
-use Rattle.ladder_print.specs.declared.types.Printed.{Printed}
-use Rattle.ladder_print.specs.declared.types.Printed.TheVariants.{Text, NoRoom}
 
 -- n bytes from byte i on
 abbrev pub bytes_from : ℕ → ℕ → List ℕ
@@ -32,15 +31,19 @@ whole_text fs x = ladder_text x.rows (verdict_of fs x.last)
 unfoldable pub start_text : Ladder → ℕ → List ℕ → List ℕ
 start_text l n fs = whole_text fs (whole_of fs (data_of n) l (replicate n 0))
 
+-- "prints only `refused`, tab, line number"
+abbrev pub misfit_text : Misfit → List ℕ
+misfit_text m = line_text (refused_text m.line)
+
 -- a line one that set_up refuses does not fit; there is none (crate ladder_claim, `SetsUp`)
 abbrev pub set_up_text : Result Ladder → ℕ → List ℕ → List ℕ
 set_up_text (Result.value l) n fs = start_text l n fs
 set_up_text (Result.number k) n fs = line_text (refused_text 1)
 
 -- "A line that does not fit prints only `refused`, tab, line number"
-abbrev pub of_file : RunFile → List ℕ → List ℕ
-of_file (file.Refused n) b = line_text (refused_text n)
-of_file (file.Run r at) b = set_up_text (set_up_of r) r.count (map fate_number (fates_at b at))
+abbrev pub of_file : code.Result RunFile Misfit → List ℕ → List ℕ
+of_file (Err m) b = misfit_text m
+of_file (Ok f) b = set_up_text (set_up_of f.run) f.run.count (map fate_number (fates_at b f.fates))
 
 unfoldable pub text_of : List ℕ → List ℕ
 text_of b = of_file (file_of b) b
@@ -51,7 +54,7 @@ TEXT-MOST = 1_340_284
 
 -- asked to print t into d, the printer answers r and leaves e: t at the front of d, the rest unchanged; where d is too short, d unchanged. A buffer
 -- that is not too short has room for t, whatever the input
-pub record Prints (t d : List ℕ) (r : Printed) (e : List ℕ) : Type 0 where
-  pub answer : r ≡ pick (leb TEXT-MOST (length d)) (Text (length t)) NoRoom
+pub record Prints (t d : List ℕ) (r : Option ℕ) (e : List ℕ) : Type 0 where
+  pub answer : r ≡ pick (leb TEXT-MOST (length d)) (Some (length t)) None
   pub left : e ≡ pick (leb TEXT-MOST (length d)) (placed d 0 t) d
   pub fits : TEXT-MOST ≤ length d → length t ≤ TEXT-MOST

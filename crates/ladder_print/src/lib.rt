@@ -3,10 +3,8 @@
 
 mod climb;
 mod data;
-mod put;
 mod run;
+mod start;
 mod text;
-mod types;
 
-pub use text::{print_if_room, print_ladder};
-pub use types::{Printed, TEXT_MOST};
+pub use text::{TEXT_MOST, print_if_room, print_ladder};

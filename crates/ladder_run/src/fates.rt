@@ -10,7 +10,7 @@ pub fn fate_of(fates: &[u8], frame: u32) -> Fate
     ensures { result ≡ fate_of fates.now frame }
 {
     match fates.get(frame as usize) {
-        Some(&f) => ladder_text::fate_at(f),
+        Some(&f) => Fate::from(f),
         None => Fate::Ok,
     }
 }
