@@ -1,5 +1,6 @@
 // Frames and XFER_RDY IUs, written and read.
 ghost use Rattle.std.specs.Prelude.{◌≡◌, ◌≤◌, length};
+ghost use Rattle.status.specs.Result.{or_refusal};
 ghost use Rattle.frame.specs.Format.{encode};
 ghost use Rattle.frame.specs.Read.{decode};
 ghost use Rattle.frame.specs.Write.{put, over, write_answer};
@@ -68,8 +69,8 @@ fn plain(x: frame::XferRdy) -> XferRdy
 }
 
 // The answer of the writer and of its steps.
-fn wrote(w: Written) -> CAnswer
-    ensures { result ≡ written_answer (written w) }
+fn wrote(w: Result<usize, Refusal>) -> CAnswer
+    ensures { result ≡ written_answer (or_refusal w) }
 {
     match w {
         Ok(len) => answer::answer_with(0, CAnswer::FRAME, 0, 0, len),

@@ -16,7 +16,7 @@ use transfer::Transfer;
 fn returned(y: Stepped<Receiver>) -> ReadInitiatorReturn
     ensures { Leaves (stepped y) result.left result.answer }
 {
-    let left = y.receiver;
+    let left = y.left;
     let a = y.answer;
     ReadInitiatorReturn {
         left: left,

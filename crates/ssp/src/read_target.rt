@@ -17,7 +17,7 @@ use transfer::Transfer;
 fn returned(y: Stepped<Sender>) -> ReadTargetReturn
     ensures { Leaves (stepped y) result.left result.answer }
 {
-    let left = y.sender;
+    let left = y.left;
     let a = y.answer;
     ReadTargetReturn {
         left: left,

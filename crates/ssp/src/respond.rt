@@ -16,7 +16,7 @@ use transfer::Transfer;
 fn returned(y: Stepped<Responder>) -> ResponseReturn
     ensures { Leaves (stepped y) result.left result.answer }
 {
-    let left = y.responder;
+    let left = y.left;
     let a = y.answer;
     ResponseReturn {
         left: left,

@@ -17,7 +17,7 @@ use transfer::Transfer;
 fn returned(y: Stepped<Writer>) -> WriteInitiatorReturn
     ensures { Leaves (stepped y) result.left result.answer }
 {
-    let left = y.writer;
+    let left = y.left;
     let a = y.answer;
     WriteInitiatorReturn {
         left: left,

@@ -20,7 +20,7 @@ use transfer::Transfer;
 fn returned(y: Stepped<Target>) -> WriteTargetReturn
     ensures { Leaves (stepped y) result.left result.answer }
 {
-    let left = y.target;
+    let left = y.left;
     let a = y.answer;
     WriteTargetReturn {
         left: left,
