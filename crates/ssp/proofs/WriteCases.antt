@@ -49,9 +49,6 @@ holds_well w {core} e a t =
     let m : Marks w = omega (arith, leb-true) in
     holds_again w (sym e ∙ h.0) t m
 
-pub lent_well : (w : Writer) (n : ℕ) {ok : Bool} → (ok ≡ true → holds_of w ≡ true) → (ok && eqb n w.sender.transfer.count) ≡ true → lent_of w n ≡ true
-lent_well w n {ok} h a = let e = each (ok ∷ eqb n w.sender.transfer.count ∷ []) a in lent_again w n (h e.0) (eqb-true _ _ e.1.0)
-
 -- ── an ACK ──
 opens : (h : Writer) → (h.sender.unanswered ≡ 0 → ⊥) → WriteOpen h → confirmable_of (holds_of h) h.sender.ended (not (eqb h.sender.unanswered 0)) ≡ (Ok tt)
 opens h n o = open_confirmable _ _ _ o.1 o.0 (ap not (ne_eqb _ _ n))
@@ -118,9 +115,11 @@ pub full_of : (h : Writer) (n room : ℕ) → FullFrame h n room → Full h.send
 full_of h n room q = (q.1, lent_sender h n q.2.1)
 
 -- the record once the frame is handed out
-pub handed_is : (h : Writer) {m : ℕ} (n room : ℕ) → FullFrame h n room → m ≡ max h.reached (h.sender.next + h.sender.transfer.size)
-    → (h with sender≔ (h.sender with next≔ (h.sender.next + h.sender.transfer.size) with unanswered≔ (h.sender.unanswered + 1) with cdp≔ false with frames≔ (h.sender.frames + 1)) with reached≔ m) ≡ handed_out h
-handed_is h n room q p = let e = (fitting h.sender n room (full_of h n room q)).whole in λ i. h with sender≔ (sent_is h.sender e i) with reached≔ (p i)
+pub handed_is : (h : Writer) {s : Sender} {m : ℕ} (n room : ℕ) → FullFrame h n room → s ≡ sent_of h.sender → m ≡ max h.reached s.next → (h with sender≔ s with reached≔ m) ≡ handed_out h
+unfolding sent_of
+handed_is h n room q e p =
+    let k = (fitting h.sender n room (full_of h n room q)).whole in
+    λ i. h with sender≔ (e i) with reached≔ ((p ∙ ap (λ (s : Sender). max h.reached s.next) e ∙ ap (λ (k : ℕ). max h.reached (h.sender.next + k)) k) i)
 
 module _ (h : Writer) (d w : List ℕ) (x : Writer) (r : CAnswer) (zs : List ℕ) where
   abbrev Gives : Left Writer → Sender → Type 0

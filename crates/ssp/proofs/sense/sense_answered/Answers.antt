@@ -10,7 +10,7 @@ pub returns-then-a : goal.returns-then-a
 unfolding sense_answered pick
 returns-then-a c =
     let a = c.args in
-    rw c.if-a.true (shows_within c.sense_of.result c.part.result a.bytes _ (sense_of (opened_in a.a)) c.part.ensures (rw c.opened_in.ensures at c.sense_of.ensures))
+    rw c.if-a.true (shows_within c.sense_of.result c.part.result a.bytes _ (sense_of (opened_in a.a)) c.part.ensures (rw c.into.ensures at c.sense_of.ensures))
 
 -- was returns-2
 pub returns : goal.returns

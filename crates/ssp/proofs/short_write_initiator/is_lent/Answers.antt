@@ -1,9 +1,6 @@
-use borrow.Author.Rules.{rules}
-use lib.ListN.{length}
-use borrow.Author.Tests.{not-false}
-use Rattle.ssp.proofs.WriteCases.{lent_well}
+use borrow.Author.Tests.{eqb-true}
+use Rattle.initiator.proofs.WriteHeld.{lent_again}
 use Rattle.ssp.proofs.short_write_initiator.is_lent.Goals as goal
 
--- was returns-3
-pub returns : goal.returns
-returns c = λ e. let a = c.args in (search rules, lent_well a.w (length a.buffer.now) (λ h. c.holds-ok.ensures h (not-false _ c.if-not-t.false)) e)
+pub returns-then-is_open : goal.returns-then-is_open
+returns-then-is_open c = λ e. let o = c.is_open.ensures c.if-is_open.true in (o.0, lent_again _ _ o.1 (eqb-true _ _ e))

@@ -1,12 +1,12 @@
 use Rattle.status.proofs.Choose.{choose}
 use Rattle.ssp.specs.ShortSend.{last_told}
-use Rattle.ssp.proofs.short_write_initiator.last_told.Goals as goal
+use Rattle.ssp.proofs.short_send.last_told.Goals as goal
 
 -- was returns
 
-pub returns-then-s-b : goal.returns-then-s-b
+pub returns-then-s : goal.returns-then-s
 unfolding last_told
-returns-then-s-b c = search choose
+returns-then-s c = search choose
 
 -- was returns-2
 pub returns : goal.returns
