@@ -37,12 +37,13 @@ pub extern "C" fn ssp_read_target_next_frame(
 ) -> CAnswer
     ensures { Leaves (read_next_of s.old buffer.now out.old) s.new result × (out.new ≡ handing (read_next_of s.old buffer.now out.old).says (frame_of s.old buffer.now) out.old) }
 {
-    if short_read_target::is_full_frame(*s, buffer.len(), out.len()) {
-        let a = short_send::put_down(*s, buffer, out);
-        short_send::send(s);
-        return a;
-    }
-    if short_read_target::is_wait(*s, buffer.len()) {
+    if short_send::is_full_due(*s, out.len()) {
+        if short_read_target::is_lent(*s, buffer.len()) {
+            let a = short_send::put_down(*s, buffer, out);
+            short_send::send(s);
+            return a;
+        }
+    } else if short_read_target::is_wait(*s, buffer.len()) {
         return CAnswer::word(CAnswer::WAIT);
     }
     answer::again(whole_next_frame(s, buffer, out))
@@ -60,11 +61,12 @@ fn whole_ack_received(s: &mut Sender) -> CAnswer
 pub extern "C" fn ssp_read_target_ack_received(s: &mut Sender) -> CAnswer
     ensures { Leaves (read_ack_of s.old) s.new result }
 {
-    if short_read_target::is_one_of_many(*s) {
-        short_read_target::one_less(s);
-        return CAnswer::word(CAnswer::TAKEN);
-    }
-    if short_read_target::is_last(*s) {
+    if 1 < s.unanswered {
+        if short_read_target::is_open(*s) {
+            s.unanswered -= 1;
+            return CAnswer::word(CAnswer::TAKEN);
+        }
+    } else if short_read_target::is_last(*s) {
         let a = short_send::last_told(*s);
         short_read_target::last_answered(s);
         return a;

@@ -1,7 +1,8 @@
 // The short path of a write at the initiator: what it tests and leaves.
-ghost use Rattle.std.specs.Prelude.{◌≡◌, true, ◌<◌};
+ghost use Rattle.std.specs.Prelude.{◌≡◌, true, false};
 ghost use Rattle.initiator.specs.WriteRecord.{holds_of};
-ghost use Rattle.ssp.specs.ShortWrite.{WriteOpen, OneOfMany, LastOne, WriteLent, FullFrame, handed_out, WaitDue};
+ghost use Rattle.ssp.specs.ShortSend.{FullDue};
+ghost use Rattle.ssp.specs.ShortWrite.{WriteOpen, LastOne, WriteLent, FullFrame, handed_out, WaitDue};
 
 use crate::short_send;
 use initiator::Writer;
@@ -22,17 +23,10 @@ fn holds(w: Writer) -> bool
 }
 
 // 1 and 2 do not apply.
-fn is_open(w: Writer) -> bool
+pub(crate) fn is_open(w: Writer) -> bool
     ensures { result ≡ true → WriteOpen w }
 {
     w.sender.transfer.write && !w.sender.ended && holds(w)
-}
-
-// An ACK leaves frames unanswered.
-pub(crate) fn is_one_of_many(w: Writer) -> bool
-    ensures { result ≡ true → OneOfMany w }
-{
-    1 < w.sender.unanswered && is_open(w)
 }
 
 // An ACK leaves nothing unanswered; no burst is taken, and no NAK is pending.
@@ -42,18 +36,19 @@ pub(crate) fn is_last(w: Writer) -> bool
     !w.sender.nak && !w.pending && w.sender.unanswered == 1 && is_open(w)
 }
 
-// 1 and 2 do not apply, with a data buffer of n bytes.
-fn is_lent(w: Writer, n: usize) -> bool
+// 1 and 2 do not apply, with a data buffer of n bytes. Built into both callers: apart, a frame asked for takes 81 instructions more.
+#[inline(always)]
+pub(crate) fn is_lent(w: Writer, n: usize) -> bool
     ensures { result ≡ true → WriteLent w n }
 {
     is_open(w) && n == (w.sender.transfer.count as usize)
 }
 
 // No burst is taken; a full frame is due, and there is room for it.
-pub(crate) fn is_full_frame(w: Writer, n: usize, room: usize) -> bool
-    ensures { result ≡ true → FullFrame w n room }
+pub(crate) fn is_full_due(w: Writer, room: usize) -> bool
+    ensures { result ≡ true → (w.pending ≡ false) × FullDue w.sender room }
 {
-    !w.pending && short_send::is_full_due(w.sender, room) && is_lent(w, n)
+    !w.pending && short_send::is_full_due(w.sender, room)
 }
 
 // The frame is handed out.

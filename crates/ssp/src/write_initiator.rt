@@ -37,12 +37,13 @@ pub extern "C" fn ssp_write_initiator_next_frame(
 ) -> CAnswer
     ensures { Leaves (next_of s.old buffer.now out.old) s.new result × (out.new ≡ handing (next_of s.old buffer.now out.old).says (frame_of (begun_of s.old).sender buffer.now) out.old) }
 {
-    if short_write_initiator::is_full_frame(*s, buffer.len(), out.len()) {
-        let a = short_send::put_down(s.sender, buffer, out);
-        short_write_initiator::send(s, buffer.len(), out.len());
-        return a;
-    }
-    if short_write_initiator::is_wait(*s, buffer.len()) {
+    if short_write_initiator::is_full_due(*s, out.len()) {
+        if short_write_initiator::is_lent(*s, buffer.len()) {
+            let a = short_send::put_down(s.sender, buffer, out);
+            short_write_initiator::send(s, buffer.len(), out.len());
+            return a;
+        }
+    } else if short_write_initiator::is_wait(*s, buffer.len()) {
         return CAnswer::word(CAnswer::WAIT);
     }
     answer::again(whole_next_frame(s, buffer, out))
@@ -60,11 +61,12 @@ fn whole_ack_received(s: &mut Writer) -> CAnswer
 pub extern "C" fn ssp_write_initiator_ack_received(s: &mut Writer) -> CAnswer
     ensures { Leaves (ack_of s.old) s.new result }
 {
-    if short_write_initiator::is_one_of_many(*s) {
-        s.sender.unanswered = s.sender.unanswered - 1;
-        return CAnswer::word(CAnswer::TAKEN);
-    }
-    if short_write_initiator::is_last(*s) {
+    if 1 < s.sender.unanswered {
+        if short_write_initiator::is_open(*s) {
+            s.sender.unanswered -= 1;
+            return CAnswer::word(CAnswer::TAKEN);
+        }
+    } else if short_write_initiator::is_last(*s) {
         let a = short_send::last_told(s.sender);
         s.sender.unanswered = 0;
         return a;
