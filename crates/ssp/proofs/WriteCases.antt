@@ -49,6 +49,9 @@ holds_well w {core} e a t =
     let m : Marks w = omega (arith, leb-true) in
     holds_again w (sym e ∙ h.0) t m
 
+pub lent_well : (w : Writer) (n : ℕ) {ok : Bool} → (ok ≡ true → holds_of w ≡ true) → (ok && eqb n w.sender.transfer.count) ≡ true → lent_of w n ≡ true
+lent_well w n {ok} h a = let e = each (ok ∷ eqb n w.sender.transfer.count ∷ []) a in lent_again w n (h e.0) (eqb-true _ _ e.1.0)
+
 -- ── an ACK ──
 opens : (h : Writer) → (h.sender.unanswered ≡ 0 → ⊥) → WriteOpen h → confirmable_of (holds_of h) h.sender.ended (not (eqb h.sender.unanswered 0)) ≡ (Ok tt)
 opens h n o = open_confirmable _ _ _ o.1 o.0 (ap not (ne_eqb _ _ n))

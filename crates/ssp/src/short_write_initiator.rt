@@ -1,6 +1,7 @@
 // The short path of a write at the initiator: what it tests and leaves.
 ghost use Rattle.std.specs.Prelude.{◌≡◌, true, false};
 ghost use Rattle.initiator.specs.WriteRecord.{holds_of};
+ghost use Rattle.initiator.specs.WriteSend.{lent_of};
 ghost use Rattle.ssp.specs.ShortSend.{FullDue};
 ghost use Rattle.ssp.specs.ShortWrite.{WriteOpen, LastOne, WriteLent, FullFrame, handed_out, WaitDue};
 
@@ -36,19 +37,26 @@ pub(crate) fn is_last(w: Writer) -> bool
     !w.sender.nak && !w.pending && w.sender.unanswered == 1 && is_open(w)
 }
 
-// 1 and 2 do not apply, with a data buffer of n bytes. Built into both callers: apart, a frame asked for takes 81 instructions more.
+// 1 does not apply, with a data buffer of n bytes.
+fn lent(w: Writer, n: usize) -> bool
+    ensures { result ≡ true → w.sender.transfer.write ≡ true → lent_of w n ≡ true }
+{
+    holds(w) & (n == (w.sender.transfer.count as usize))
+}
+
+// 1 and 2 do not apply, with such a buffer. Built into both callers: apart, a frame asked for takes 81 instructions more.
 #[inline(always)]
 pub(crate) fn is_lent(w: Writer, n: usize) -> bool
     ensures { result ≡ true → WriteLent w n }
 {
-    is_open(w) && n == (w.sender.transfer.count as usize)
+    w.sender.transfer.write && !w.sender.ended && lent(w, n)
 }
 
 // No burst is taken; a full frame is due, and there is room for it.
 pub(crate) fn is_full_due(w: Writer, room: usize) -> bool
     ensures { result ≡ true → (w.pending ≡ false) × FullDue w.sender room }
 {
-    !w.pending && short_send::is_full_due(w.sender, room)
+    !w.pending & short_send::is_full_due(w.sender, room)
 }
 
 // The frame is handed out.
