@@ -8,7 +8,7 @@ ghost use Rattle.ssp.specs.ShortWrite.{WriteOpen, LastOne, WriteLent, FullFrame,
 use crate::short_send;
 use initiator::Writer;
 
-// Of a write's record: 1 does not apply.
+// Of a write's record: 1 does not apply. Joined by `&`: by `&&` an ACK takes 121 instructions, not 92.
 fn holds(w: Writer) -> bool
     ensures { result ≡ true → w.sender.transfer.write ≡ true → holds_of w ≡ true }
 {
@@ -37,14 +37,14 @@ pub(crate) fn is_last(w: Writer) -> bool
     !w.sender.nak && !w.pending && w.sender.unanswered == 1 && is_open(w)
 }
 
-// 1 does not apply, with a data buffer of n bytes.
+// 1 does not apply, with a data buffer of n bytes. Joined by `&`: by `&&` a frame asked for takes 32 instructions more.
 fn lent(w: Writer, n: usize) -> bool
     ensures { result ≡ true → w.sender.transfer.write ≡ true → lent_of w n ≡ true }
 {
     holds(w) & (n == (w.sender.transfer.count as usize))
 }
 
-// 1 and 2 do not apply, with such a buffer. Built into both callers: apart, a frame asked for takes 81 instructions more.
+// 1 and 2 do not apply, with such a buffer. Built into both callers: apart, a frame asked for takes 74 instructions more.
 #[inline(always)]
 pub(crate) fn is_lent(w: Writer, n: usize) -> bool
     ensures { result ≡ true → WriteLent w n }
@@ -52,7 +52,7 @@ pub(crate) fn is_lent(w: Writer, n: usize) -> bool
     w.sender.transfer.write && !w.sender.ended && lent(w, n)
 }
 
-// No burst is taken; a full frame is due, and there is room for it.
+// No burst is taken; a full frame is due, and there is room for it. Joined by `&`: by `&&` such a frame takes 49 instructions more.
 pub(crate) fn is_full_due(w: Writer, room: usize) -> bool
     ensures { result ≡ true → (w.pending ≡ false) × FullDue w.sender room }
 {

@@ -8,7 +8,7 @@ ghost use Rattle.ssp.specs.ShortReceive.{Fits, Next, WriteNext, write_grown_of};
 use crate::short_receive;
 use target::Target;
 
-// Of a record whose XFER_RDY had its ACK: number 1 does not apply.
+// Of a record whose XFER_RDY had its ACK: number 1 does not apply. Joined by `&`: by `&&` an arrival takes 10 instructions more.
 fn is_lent(x: Target, room: usize) -> bool
     ensures { result ≡ true → x.state ≡ READY → x.receiver.transfer.write ≡ true → lent_of x room ≡ true }
 {
