@@ -20,10 +20,6 @@ use Rattle.ssp.specs.declared.types.CAnswer.{CAnswer}
 pub no : {A : Type 0} → false ≡ true → A
 no e = absurd (false≢true e)
 
-pub neither : (a b : Bool) → (a || b) ≡ false → (a ≡ false) × (b ≡ false)
-neither false b e = (refl, e)
-neither true b e = no (sym e)
-
 -- where the test fails it is the second
 pub second : {X : Type 0} {t : Bool} (a b : X) → t ≡ false → pick t a b ≡ b
 second {t = t} a b e = sym (in_false t b a b e refl)

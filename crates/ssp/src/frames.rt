@@ -132,6 +132,7 @@ pub extern "C" fn ssp_frame_read(s: &mut Header, bytes: &[u8]) -> CAnswer
     }
 }
 
+#[tactic(auto, unfolding(frame::specs::Write::over))]
 fn place(x: XferRdy, out: &mut [u8])
     requires { 12 ≤ length out.old }
     ensures { out.new ≡ over (xfer_rdy_bytes (asked x)) out.old }
@@ -141,6 +142,7 @@ fn place(x: XferRdy, out: &mut [u8])
 }
 
 // 3, else 12; the IU stands at the front of the output buffer.
+#[tactic(auto, unfolding(status::specs::Pick::pick))]
 #[unsafe(no_mangle)]
 pub extern "C" fn ssp_xfer_rdy_write(x: XferRdy, out: &mut [u8]) -> CAnswer
     ensures { (result ≡ written_answer (xfer_rdy_answer out.old)) × (out.new ≡ put (xfer_rdy_answer out.old) (xfer_rdy_bytes (asked x)) out.old) }

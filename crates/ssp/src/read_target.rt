@@ -58,6 +58,7 @@ fn whole_ack_received(s: &mut Sender) -> CAnswer
 
 // 1, 2, 4; taken, delivered, retry, or 28 (a NAK is pending).
 #[unsafe(no_mangle)]
+#[tactic(auto, using(crate::proofs::Cases::one_of_many, crate::proofs::Cases::last_one))]
 pub extern "C" fn ssp_read_target_ack_received(s: &mut Sender) -> CAnswer
     ensures { Leaves (read_ack_of s.old) s.new result }
 {

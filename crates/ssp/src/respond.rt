@@ -13,6 +13,7 @@ use status::Refusal;
 use transfer::Transfer;
 
 // 1 (also for an IU of other than 24 to 1,024 bytes): the record stays as it was; else it is ready.
+#[tactic(auto, unfolding(response::specs::Record::set_up_of, status::specs::Result::granted, status::specs::Pick::pick))]
 #[unsafe(no_mangle)]
 pub extern "C" fn ssp_response_set_up(s: &mut Responder, t: Transfer, len: usize) -> CAnswer
     ensures { SetsUp (set_up_of t len) s.old s.new result }

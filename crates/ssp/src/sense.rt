@@ -38,6 +38,7 @@ impl From<CAnswer> for Opened {
     }
 }
 
+#[tactic(auto, unfolding(crate::specs::Sense::sense_answered, status::specs::Pick::pick), using(frame::proofs::Parts::no_part))]
 fn sense_answered(a: CAnswer, bytes: &[u8]) -> &[u8]
     ensures { Shows result bytes.entry (sense_answered a bytes.now) }
 {

@@ -25,6 +25,7 @@ pub(crate) fn is_next(r: Receiver, bytes: &[u8]) -> bool
 }
 
 // The data goes to its place: a middle part of the buffer is lent on to the copy.
+#[tactic(auto, using(frame::proofs::Place::copied_over))]
 fn place(at: usize, iu: &[u8], buffer: &mut [u8])
     requires { at + length iu.now ≤ length buffer.old }
     ensures { buffer.new ≡ placed buffer.old at iu.now }
@@ -34,6 +35,7 @@ fn place(at: usize, iu: &[u8], buffer: &mut [u8])
 }
 
 // The data of a frame is stored.
+#[tactic(auto, unfolding(crate::specs::ShortReceive::stored_told, status::specs::Pick::pick))]
 pub(crate) fn store(r: Receiver, bytes: &[u8], buffer: &mut [u8]) -> CAnswer
     requires { (24 ≤ length bytes.now) × Fits r (length bytes.now) × (r.end ≤ length buffer.old) }
     ensures { (result ≡ stored_told r (length bytes.now)) × (buffer.new ≡ placed buffer.old r.expected (drop 24 bytes.now)) }

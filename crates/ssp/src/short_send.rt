@@ -49,6 +49,7 @@ pub(crate) fn put_down(s: Sender, buffer: &[u8], out: &mut [u8]) -> CAnswer
 }
 
 // It is handed out.
+#[tactic(auto, using(crate::proofs::FullFrame::sized, crate::proofs::FullFrame::sent_is, sender_steps::proofs::Held::held))]
 pub(crate) fn send(s: &mut Sender)
     requires { Sendable s.old }
     ensures { s.new ≡ sent_of s.old }
@@ -60,6 +61,7 @@ pub(crate) fn send(s: &mut Sender)
 }
 
 // The ACK of the last frame: it is delivered, or more is to be sent.
+#[tactic(auto, unfolding(crate::specs::ShortSend::last_told, status::specs::Pick::pick))]
 pub(crate) fn last_told(s: Sender) -> CAnswer
     ensures { result ≡ last_told s }
 {

@@ -9,6 +9,7 @@ use crate::short_send;
 use initiator::Writer;
 
 // Of a write's record: 1 does not apply. Joined by `&`: by `&&` an ACK takes 121 instructions, not 92.
+#[tactic(auto, using(crate::proofs::WriteCases::holds_well))]
 fn holds(w: Writer) -> bool
     ensures { result ≡ true → w.sender.transfer.write ≡ true → holds_of w ≡ true }
 {
@@ -38,6 +39,7 @@ pub(crate) fn is_last(w: Writer) -> bool
 }
 
 // 1 does not apply, with a data buffer of n bytes. Joined by `&`: by `&&` a frame asked for takes 32 instructions more.
+#[tactic(auto, using(crate::proofs::WriteCases::lent_well))]
 fn lent(w: Writer, n: usize) -> bool
     ensures { result ≡ true → w.sender.transfer.write ≡ true → lent_of w n ≡ true }
 {
@@ -60,6 +62,7 @@ pub(crate) fn is_full_due(w: Writer, room: usize) -> bool
 }
 
 // The frame is handed out.
+#[tactic(auto, using(crate::proofs::WriteCases::full_of, crate::proofs::WriteCases::handed_is, sender_steps::proofs::Held::lent_holds))]
 pub(crate) fn send(w: &mut Writer, n: usize, room: usize)
     requires { FullFrame w.old n room }
     ensures { w.new ≡ handed_out w.old }

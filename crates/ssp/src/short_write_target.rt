@@ -9,6 +9,7 @@ use crate::short_receive;
 use target::Target;
 
 // Of a record whose XFER_RDY had its ACK: number 1 does not apply. Joined by `&`: by `&&` an arrival takes 10 instructions more.
+#[tactic(auto, using(crate::proofs::TargetCases::lent_well))]
 fn is_lent(x: Target, room: usize) -> bool
     ensures { result ≡ true → x.state ≡ READY → x.receiver.transfer.write ≡ true → lent_of x room ≡ true }
 {
@@ -23,6 +24,7 @@ fn is_lent(x: Target, room: usize) -> bool
 }
 
 // The frame is the next one in order, and carries the record's tag.
+#[tactic(auto, using(crate::proofs::TargetCases::tag_is))]
 fn is_due(x: Target, bytes: &[u8]) -> bool
     ensures { result ≡ true → Fits x.receiver (length bytes.now) × Next x.receiver bytes.now × (field bytes.now 18 2 ≡ x.tptt) }
 {

@@ -58,6 +58,7 @@ fn whole_ack_received(s: &mut Writer) -> CAnswer
 
 // 1, 2, 4; taken, delivered, retry, or 28 (a NAK is pending).
 #[unsafe(no_mangle)]
+#[tactic(auto, using(crate::proofs::WriteCases::one_of_many, crate::proofs::WriteCases::last_one))]
 pub extern "C" fn ssp_write_initiator_ack_received(s: &mut Writer) -> CAnswer
     ensures { Leaves (ack_of s.old) s.new result }
 {
