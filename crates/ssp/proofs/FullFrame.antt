@@ -1,16 +1,15 @@
 -- A frame of the full data size: what its premises give, how long it is, and that the writer puts it down.
 use Prim.Native.Nat.{ℕ, ◌+◌, ◌-◌, ◌%◌, ◌^◌, ◌≤◌, ◌<◌}
-use mathlib.Core.List.{List, [], ◌∷◌}
+use mathlib.Core.List.{List}
 use mathlib.Core.Path.{◌≡◌, refl, sym, ap, ◌∙◌}
-use mathlib.Core.Bool.{Bool, true, false, not, ◌||◌}
+use mathlib.Core.Bool.{Bool, true, false, ◌||◌}
 use native.Mathlib.Omega.{arith}
-use lib.Dec.{leb, ltb, eqb}
+use lib.Dec.{leb}
 use lib.ListN.{length, take, drop}
-use borrow.Author.Tests.{le-leb, lt-leb, ne_eqb, eq-eqb, leb-true, ltb-true, not-true}
-use Rattle.status.specs.Pick.{all, ◌with◌}
-use Rattle.status.specs.Result.{Result}
-use Rattle.status.proofs.Choose.{each, in_true}
-use Rattle.frame.specs.Write.{writable, write_answer, over}
+use borrow.Author.Tests.{le-leb, lt-leb, ne_eqb, eq-eqb}
+use Rattle.status.specs.Pick.{◌with◌}
+use Rattle.status.proofs.Choose.{in_true}
+use Rattle.frame.specs.Write.{writable, over}
 use Rattle.frame.specs.Full.{is_full, put_full}
 use Rattle.frame.specs.declared.types.Header.{Header}
 use Rattle.frame.proofs.Writer.{encode_length}
@@ -19,7 +18,7 @@ use Rattle.sender_steps.specs.Fields.{next≔, unanswered≔, cdp≔, frames≔}
 use Rattle.sender_steps.specs.declared.types.Sender.{Sender}
 use Rattle.sender_steps.proofs.Held.{Held, held, lent_holds}
 use Rattle.sender_steps.proofs.Due.{part_length, can_write}
-use Rattle.ssp.specs.ShortSend.{FullDue, Full, Sendable}
+use Rattle.ssp.specs.ShortSend.{Full, Sendable}
 
 -- what the writer and the copy lean on
 pub record Fitting (s : Sender) (n room : ℕ) : Type 0 where

@@ -16,7 +16,7 @@ use Rattle.status.proofs.OpenedCall.{open_entry, open_confirmable}
 use Rattle.frame.specs.Write.{over, handing}
 use Rattle.sender_steps.specs.Record as sender
 use Rattle.sender_steps.specs.Confirmation.{lowered_of}
-use Rattle.sender_steps.specs.Fields.{next≔, balance≔, unanswered≔, cdp≔, retries≔, frames≔, ended≔}
+use Rattle.sender_steps.specs.Fields.{balance≔, unanswered≔, retries≔, ended≔}
 use Rattle.sender_steps.specs.Transmit.{frame_of, sent_of}
 use Rattle.sender_steps.specs.declared.types.Sender.{Sender}
 use Rattle.sender_steps.proofs.Held as core
@@ -35,7 +35,7 @@ use Rattle.ssp.specs.ShortSend.{Full, last_told}
 use Rattle.ssp.specs.ShortWrite.{WriteOpen, OneOfMany, LastOne, count_left, WriteLent, FullFrame, handed_out, WaitDue}
 use Rattle.ssp.specs.declared.types.CAnswer.{CAnswer}
 use Rattle.ssp.proofs.Cases.{no, second}
-use Rattle.ssp.proofs.FullFrame.{fitting, sent_is}
+use Rattle.ssp.proofs.FullFrame.{fitting}
 use Rattle.ssp.proofs.FrameCases.{hands_full}
 
 -- ── the tests, as the code joins them ──

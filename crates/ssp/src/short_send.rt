@@ -49,7 +49,6 @@ pub(crate) fn put_down(s: Sender, buffer: &[u8], out: &mut [u8]) -> CAnswer
 }
 
 // It is handed out.
-#[tactic(auto, using(crate::proofs::FullFrame::sized, crate::proofs::FullFrame::sent_is, sender_steps::proofs::Held::held))]
 pub(crate) fn send(s: &mut Sender)
     requires { Sendable s.old }
     ensures { s.new ≡ sent_of s.old }

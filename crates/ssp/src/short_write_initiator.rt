@@ -62,7 +62,6 @@ pub(crate) fn is_full_due(w: Writer, room: usize) -> bool
 }
 
 // The frame is handed out.
-#[tactic(auto, using(crate::proofs::WriteCases::full_of, crate::proofs::WriteCases::handed_is, sender_steps::proofs::Held::lent_holds))]
 pub(crate) fn send(w: &mut Writer, n: usize, room: usize)
     requires { FullFrame w.old n room }
     ensures { w.new ≡ handed_out w.old }

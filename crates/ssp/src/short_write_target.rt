@@ -24,7 +24,6 @@ fn is_lent(x: Target, room: usize) -> bool
 }
 
 // The frame is the next one in order, and carries the record's tag.
-#[tactic(auto, using(crate::proofs::TargetCases::tag_is))]
 fn is_due(x: Target, bytes: &[u8]) -> bool
     ensures { result ≡ true → Fits x.receiver (length bytes.now) × Next x.receiver bytes.now × (field bytes.now 18 2 ≡ x.tptt) }
 {
@@ -36,11 +35,7 @@ pub(crate) fn is_next(x: Target, bytes: &[u8], room: usize) -> bool
     ensures { result ≡ true → WriteNext x bytes.now room }
 {
     let r = x.receiver;
-    is_due(x, bytes)
-        && r.transfer.write
-        && !r.ended
-        && x.state == Target::READY
-        && is_lent(x, room)
+    is_due(x, bytes) && r.transfer.write && !r.ended && x.state == Target::READY && is_lent(x, room)
 }
 
 // The data of a frame of n bytes is stored.
