@@ -27,7 +27,7 @@ pub extern "C" fn ssp_read_initiator_nexus_lost(s: &mut Receiver) -> CAnswer
     answer::leave(initiator::read_nexus_lost(*s), s)
 }
 
-// The body for every other case, apart from the short path (docs/SPEED.md).
+// The body for every other case stays apart from the short path (docs/SPEED.md).
 #[inline(never)]
 fn whole_frame_received(s: &mut Receiver, bytes: &[u8], buffer: &mut [u8]) -> CAnswer
     ensures { Leaves (read_arrival_of s.old bytes.now (length buffer.old)) s.new result × (buffer.new ≡ storing (read_arrival_of s.old bytes.now (length buffer.old)).says (header_in bytes.now).offset (iu_of bytes.now) buffer.old) }

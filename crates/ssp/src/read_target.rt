@@ -20,7 +20,7 @@ pub extern "C" fn ssp_read_target_set_up(s: &mut Sender, t: Transfer) -> CAnswer
     answer::set_up(target::set_up_read(t), s)
 }
 
-// The body for every other case, apart from the short paths (docs/SPEED.md).
+// The body for every other case stays apart from the short paths (docs/SPEED.md).
 #[inline(never)]
 fn whole_next_frame(s: &mut Sender, buffer: &[u8], out: &mut [u8]) -> CAnswer
     ensures { Leaves (read_next_of s.old buffer.now out.old) s.new result × (out.new ≡ handing (read_next_of s.old buffer.now out.old).says (frame_of s.old buffer.now) out.old) }
@@ -49,6 +49,7 @@ pub extern "C" fn ssp_read_target_next_frame(
     answer::again(whole_next_frame(s, buffer, out))
 }
 
+// As above.
 #[inline(never)]
 fn whole_ack_received(s: &mut Sender) -> CAnswer
     ensures left { Leaves (read_ack_of s.old) s.new result }

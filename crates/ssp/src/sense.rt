@@ -42,7 +42,7 @@ impl From<CAnswer> for Opened {
 fn sense_answered(a: CAnswer, bytes: &[u8]) -> &[u8]
     ensures { Shows result bytes.entry (sense_answered a bytes.now) }
 {
-    if (a.what == CAnswer::RESPONSE) | (a.what == CAnswer::PARSED) {
+    if a.what == CAnswer::RESPONSE || a.what == CAnswer::PARSED {
         return frame::sense_of(a.into(), frame::part(bytes, a.start, a.len));
     }
     frame::part(bytes, 0, 0)

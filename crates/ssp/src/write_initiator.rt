@@ -20,7 +20,7 @@ pub extern "C" fn ssp_write_initiator_set_up(s: &mut Writer, t: Transfer) -> CAn
     answer::set_up(initiator::set_up_write(t), s)
 }
 
-// The body for every other case, apart from the short paths (docs/SPEED.md).
+// The body for every other case stays apart from the short paths (docs/SPEED.md).
 #[inline(never)]
 fn whole_next_frame(s: &mut Writer, buffer: &[u8], out: &mut [u8]) -> CAnswer
     ensures { Leaves (next_of s.old buffer.now out.old) s.new result × (out.new ≡ handing (next_of s.old buffer.now out.old).says (frame_of (begun_of s.old).sender buffer.now) out.old) }
@@ -49,6 +49,7 @@ pub extern "C" fn ssp_write_initiator_next_frame(
     answer::again(whole_next_frame(s, buffer, out))
 }
 
+// As above.
 #[inline(never)]
 fn whole_ack_received(s: &mut Writer) -> CAnswer
     ensures { Leaves (ack_of s.old) s.new result }

@@ -79,7 +79,7 @@ pub extern "C" fn ssp_write_target_time_reported(s: &mut Target, milliseconds: u
     answer::leave(target::write_time_reported(*s, milliseconds), s)
 }
 
-// The body for every other case, apart from the short path (docs/SPEED.md).
+// The body for every other case stays apart from the short path (docs/SPEED.md).
 #[inline(never)]
 fn whole_frame_received(s: &mut Target, bytes: &[u8], buffer: &mut [u8]) -> CAnswer
     ensures { Leaves (write_arrival_of s.old bytes.now (length buffer.old)) s.new result × (buffer.new ≡ storing (write_arrival_of s.old bytes.now (length buffer.old)).says (header_in bytes.now).offset (iu_of bytes.now) buffer.old) }
