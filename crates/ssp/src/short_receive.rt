@@ -13,7 +13,8 @@ fn is_fitting(r: Receiver, n: usize) -> bool
     n <= 1048 && (r.expected as usize) + n <= (r.end as usize) + 24
 }
 
-// A plain DATA frame at the expected offset with no more data than the burst has left, nothing above it stored, and the port does not wait for CDP.
+// A plain DATA frame at the expected offset, with no more data than the burst has left; nothing above it is stored,
+// and the port does not wait for CDP.
 pub(crate) fn is_next(r: Receiver, bytes: &[u8]) -> bool
     ensures { result ≡ true → Fits r (length bytes.now) × Next r bytes.now }
 {

@@ -46,7 +46,8 @@ fn lent(w: Writer, n: usize) -> bool
     holds(w) & (n == (w.sender.transfer.count as usize))
 }
 
-// 1 and 2 do not apply, with such a buffer. Built into both callers: apart, a frame asked for takes 74 instructions more.
+// 1 and 2 do not apply, with such a buffer.
+// Built into both callers: apart, a frame asked for takes 74 instructions more.
 #[inline(always)]
 pub(crate) fn is_lent(w: Writer, n: usize) -> bool
     ensures { result ≡ true → WriteLent w n }
@@ -54,7 +55,8 @@ pub(crate) fn is_lent(w: Writer, n: usize) -> bool
     w.sender.transfer.write && !w.sender.ended && lent(w, n)
 }
 
-// No burst is taken; a full frame is due, and there is room for it. Joined by `&`: by `&&` such a frame takes 49 instructions more.
+// No burst is taken; a full frame is due, and there is room for it.
+// Joined by `&`: by `&&` such a frame takes 49 instructions more.
 pub(crate) fn is_full_due(w: Writer, room: usize) -> bool
     ensures { result ≡ true → (w.pending ≡ false) × FullDue w.sender room }
 {

@@ -8,7 +8,8 @@ ghost use Rattle.ssp.specs.ShortReceive.{Fits, Next, WriteNext, write_grown_of};
 use crate::short_receive;
 use target::Target;
 
-// Of a record whose XFER_RDY had its ACK: number 1 does not apply. Joined by `&`: by `&&` an arrival takes 10 instructions more.
+// Of a record whose XFER_RDY had its ACK: number 1 does not apply.
+// Joined by `&`: by `&&` an arrival takes 10 instructions more.
 #[tactic(auto, using(crate::proofs::TargetCases::lent_well))]
 fn is_lent(x: Target, room: usize) -> bool
     ensures { result ≡ true → x.state ≡ READY → x.receiver.transfer.write ≡ true → lent_of x room ≡ true }

@@ -1,4 +1,5 @@
 // What C sees: the answer of every call, and the records of a frame.
+
 // The answer of a call. A field that a case does not name is 0.
 #[repr(C)]
 #[derive(Clone, Copy)]
@@ -19,7 +20,7 @@ pub struct CAnswer {
     pub sense: usize,
 }
 
-// Numbers, since an exported function cannot return an enum (docs/DECISIONS.md).
+// C interface: an exported function cannot return an enum, so each case has a number (docs/DECISIONS.md).
 impl CAnswer {
     // Every field is 0: the fields that a case does not name.
     pub(crate) const NONE: CAnswer = CAnswer {
