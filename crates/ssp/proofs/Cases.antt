@@ -1,7 +1,7 @@
 -- In the common case a definition gives this: what the short paths of a read's target leave and tell is what its definitions say.
 use Prim.Native.Nat.{ℕ}
 use mathlib.Core.Path.{◌≡◌, refl, sym, ap, subst, ◌∙◌}
-use mathlib.Core.Bool.{Bool, true, false, not, ◌||◌, false≢true}
+use mathlib.Core.Bool.{Bool, true, false, not, false≢true}
 use native.Mathlib.Omega.{arith}
 use borrow.Author.Tests.{ne_eqb, eq-eqb}
 use Rattle.status.specs.Pick.{pick, ◌with◌}
@@ -19,10 +19,6 @@ use Rattle.ssp.specs.declared.types.CAnswer.{CAnswer}
 
 pub no : {A : Type 0} → false ≡ true → A
 no e = absurd (false≢true e)
-
-pub neither : (a b : Bool) → (a || b) ≡ false → (a ≡ false) × (b ≡ false)
-neither false b e = (refl, e)
-neither true b e = no (sym e)
 
 -- where the test fails it is the second
 pub second : {X : Type 0} {t : Bool} (a b : X) → t ≡ false → pick t a b ≡ b

@@ -1,16 +1,15 @@
 -- A frame of the full data size: what its premises give, how long it is, and that the writer puts it down.
 use Prim.Native.Nat.{ℕ, ◌+◌, ◌-◌, ◌%◌, ◌^◌, ◌≤◌, ◌<◌}
-use mathlib.Core.List.{List, [], ◌∷◌}
+use mathlib.Core.List.{List}
 use mathlib.Core.Path.{◌≡◌, refl, sym, ap, ◌∙◌}
-use mathlib.Core.Bool.{Bool, true, false, not, ◌||◌}
+use mathlib.Core.Bool.{Bool, true, false, ◌||◌}
 use native.Mathlib.Omega.{arith}
-use lib.Dec.{leb, ltb, eqb}
+use lib.Dec.{leb}
 use lib.ListN.{length, take, drop}
-use borrow.Author.Tests.{le-leb, lt-leb, ne_eqb, eq-eqb, leb-true, ltb-true, not-true}
-use Rattle.status.specs.Pick.{all, ◌with◌}
-use Rattle.status.specs.Result.{Result}
-use Rattle.status.proofs.Choose.{each, in_true}
-use Rattle.frame.specs.Write.{writable, write_answer, over}
+use borrow.Author.Tests.{le-leb, lt-leb, ne_eqb, eq-eqb}
+use Rattle.status.specs.Pick.{◌with◌}
+use Rattle.status.proofs.Choose.{in_true}
+use Rattle.frame.specs.Write.{writable, over}
 use Rattle.frame.specs.Full.{is_full, put_full}
 use Rattle.frame.specs.declared.types.Header.{Header}
 use Rattle.frame.proofs.Writer.{encode_length}
@@ -19,14 +18,7 @@ use Rattle.sender_steps.specs.Fields.{next≔, unanswered≔, cdp≔, frames≔}
 use Rattle.sender_steps.specs.declared.types.Sender.{Sender}
 use Rattle.sender_steps.proofs.Held.{Held, held, lent_holds}
 use Rattle.sender_steps.proofs.Due.{part_length, can_write}
-use Rattle.ssp.specs.ShortSend.{FullDue, Full, Sendable}
-
--- the test, as the code joins it
-abbrev pub due_tests : Sender → ℕ → List Bool
-due_tests s room = not s.nak ∷ ltb s.unanswered s.transfer.window ∷ leb (s.next + s.transfer.size) s.burst.end ∷ leb (24 + s.transfer.size) room ∷ leb s.transfer.size 1_024 ∷ eqb (s.transfer.size % 4) 0 ∷ []
-
-pub full_due : (s : Sender) (room : ℕ) → all (due_tests s room) ≡ true → FullDue s room
-full_due s room e = let h = each (due_tests s room) e in (not-true _ h.0, ltb-true _ _ h.1.0, leb-true _ _ h.1.1.0, leb-true _ _ h.1.1.1.0)
+use Rattle.ssp.specs.ShortSend.{Full, Sendable}
 
 -- what the writer and the copy lean on
 pub record Fitting (s : Sender) (n room : ℕ) : Type 0 where
@@ -94,10 +86,6 @@ module _ (s : Sender) (d w : List ℕ) (f : Full s (length d) (length w)) where
   -- the writer takes header and data
   pub data_writable : writable (data_header s) (length (part_of s d)) ≡ true
   data_writable = can_write s (length (part_of s d)) h (omega (arith, part_size, g.most))
-
-  writer_takes : write_answer (data_header s) (part_of s d) w ≡ Result.value (length (frame_of s d))
-  unfolding frame_of
-  writer_takes = sym (in_true _ _ _ _ data_writable (in_true _ _ _ _ frame_fits refl))
 
   -- the writer's short way takes it
   is_full_lem : is_full (data_header s) (length (part_of s d)) (length w) ≡ true

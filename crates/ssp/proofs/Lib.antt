@@ -1,5 +1,3 @@
-pub mod Passed
-pub mod Written
 pub mod Cases
 pub mod FullFrame
 pub mod FrameCases

@@ -16,7 +16,7 @@ use Rattle.status.proofs.OpenedCall.{open_entry, open_confirmable}
 use Rattle.frame.specs.Write.{over, handing}
 use Rattle.sender_steps.specs.Record as sender
 use Rattle.sender_steps.specs.Confirmation.{lowered_of}
-use Rattle.sender_steps.specs.Fields.{next≔, balance≔, unanswered≔, cdp≔, retries≔, frames≔, ended≔}
+use Rattle.sender_steps.specs.Fields.{balance≔, unanswered≔, retries≔, ended≔}
 use Rattle.sender_steps.specs.Transmit.{frame_of, sent_of}
 use Rattle.sender_steps.specs.declared.types.Sender.{Sender}
 use Rattle.sender_steps.proofs.Held as core
@@ -35,7 +35,7 @@ use Rattle.ssp.specs.ShortSend.{Full, last_told}
 use Rattle.ssp.specs.ShortWrite.{WriteOpen, OneOfMany, LastOne, count_left, WriteLent, FullFrame, handed_out, WaitDue}
 use Rattle.ssp.specs.declared.types.CAnswer.{CAnswer}
 use Rattle.ssp.proofs.Cases.{no, second}
-use Rattle.ssp.proofs.FullFrame.{fitting, sent_is}
+use Rattle.ssp.proofs.FullFrame.{fitting}
 use Rattle.ssp.proofs.FrameCases.{hands_full}
 
 -- ── the tests, as the code joins them ──
@@ -118,9 +118,11 @@ pub full_of : (h : Writer) (n room : ℕ) → FullFrame h n room → Full h.send
 full_of h n room q = (q.1, lent_sender h n q.2.1)
 
 -- the record once the frame is handed out
-pub handed_is : (h : Writer) {m : ℕ} (n room : ℕ) → FullFrame h n room → m ≡ max h.reached (h.sender.next + h.sender.transfer.size)
-    → (h with sender≔ (h.sender with next≔ (h.sender.next + h.sender.transfer.size) with unanswered≔ (h.sender.unanswered + 1) with cdp≔ false with frames≔ (h.sender.frames + 1)) with reached≔ m) ≡ handed_out h
-handed_is h n room q p = let e = (fitting h.sender n room (full_of h n room q)).whole in λ i. h with sender≔ (sent_is h.sender e i) with reached≔ (p i)
+pub handed_is : (h : Writer) {s : Sender} {m : ℕ} (n room : ℕ) → FullFrame h n room → s ≡ sent_of h.sender → m ≡ max h.reached s.next → (h with sender≔ s with reached≔ m) ≡ handed_out h
+unfolding sent_of
+handed_is h n room q e p =
+    let k = (fitting h.sender n room (full_of h n room q)).whole in
+    λ i. h with sender≔ (e i) with reached≔ ((p ∙ ap (λ (s : Sender). max h.reached s.next) e ∙ ap (λ (k : ℕ). max h.reached (h.sender.next + k)) k) i)
 
 module _ (h : Writer) (d w : List ℕ) (x : Writer) (r : CAnswer) (zs : List ℕ) where
   abbrev Gives : Left Writer → Sender → Type 0

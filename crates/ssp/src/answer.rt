@@ -1,82 +1,134 @@
 // The answers of all ports as C sees them.
 ghost use Rattle.std.specs.Prelude.{◌≡◌};
 ghost use Rattle.status.specs.Answer.{says};
-ghost use Rattle.ssp.specs.CAnswer.{answer_with, opens, word, c_answer_of};
+ghost use Rattle.status.specs.Number.{refusal_number, failure_number};
+ghost use Rattle.status.specs.Result.{or_refusal};
+ghost use Rattle.status.specs.Stepped.{stepped};
+ghost use Rattle.ssp.specs.CAnswer.{REFUSED, FAILED, answer_with, opens, word, c_answer_of, Leaves, SetsUp};
 
 use crate::types::CAnswer;
-use status::{Answer, Opened, Part};
+use status::{Answer, Failure, Opened, Part, Refusal, Stepped};
 
-pub(crate) fn answer_with(number: u8, what: u8, frames: u64, start: usize, len: usize) -> CAnswer
-    ensures { result ≡ answer_with number what frames start len }
-{
-    CAnswer {
-        number: number,
-        what: what,
-        kind: 0,
-        status: 0,
-        frames: frames,
-        start: start,
-        len: len,
-        sense: 0,
+impl CAnswer {
+    // A case that names no value.
+    pub(crate) fn word(what: u8) -> CAnswer
+        ensures { result ≡ word what }
+    {
+        CAnswer {
+            what,
+            ..CAnswer::NONE
+        }
+    }
+
+    // A RESPONSE's IU: where it stands, and what it says.
+    pub(crate) fn opened(what: u8, frames: u64, iu: Part, o: Opened) -> CAnswer
+        ensures { result ≡ opens what frames iu.start iu.len o }
+    {
+        CAnswer {
+            number: 0,
+            what,
+            kind: o.kind,
+            status: o.status,
+            frames,
+            start: iu.start,
+            len: iu.len,
+            sense: o.sense,
+        }
     }
 }
 
-// A RESPONSE's IU: where it stands, and what it says.
-pub(crate) fn answer_opened(what: u8, frames: u64, iu: Part, o: Opened) -> CAnswer
-    ensures { result ≡ opens what frames iu.start iu.len o }
-{
-    CAnswer {
-        number: 0,
-        what: what,
-        kind: o.kind,
-        status: o.status,
-        frames: frames,
-        start: iu.start,
-        len: iu.len,
-        sense: o.sense,
+impl From<Refusal> for CAnswer {
+    ghost from_gives = { λ why a. a ≡ answer_with (refusal_number why) REFUSED 0 0 0 };
+
+    fn from(why: Refusal) -> CAnswer {
+        CAnswer {
+            number: why.number(),
+            what: CAnswer::REFUSED,
+            ..CAnswer::NONE
+        }
+    }
+}
+
+// Of a reader, which hands out no frames.
+impl From<Failure> for CAnswer {
+    ghost from_gives = { λ why a. a ≡ answer_with (failure_number why) FAILED 0 0 0 };
+
+    fn from(why: Failure) -> CAnswer {
+        CAnswer {
+            number: why.number(),
+            what: CAnswer::FAILED,
+            ..CAnswer::NONE
+        }
     }
 }
 
 // A port's answer.
-pub(crate) fn c_answer(a: Answer) -> CAnswer
-    ensures { result ≡ c_answer_of (says a) }
-{
-    match a {
-        Answer::Refused(why) => answer_with(why.number(), CAnswer::REFUSED, 0, 0, 0),
-        Answer::Failed(why, frames) => answer_with(why.number(), CAnswer::FAILED, frames, 0, 0),
-        Answer::Wait => answer_with(0, CAnswer::WAIT, 0, 0, 0),
-        Answer::Frame(len) => answer_with(0, CAnswer::FRAME, 0, 0, len),
-        Answer::Taken => answer_with(0, CAnswer::TAKEN, 0, 0, 0),
-        Answer::Retry => answer_with(0, CAnswer::RETRY, 0, 0, 0),
-        Answer::Unchanged => answer_with(0, CAnswer::UNCHANGED, 0, 0, 0),
-        Answer::Delivered(frames) => answer_with(0, CAnswer::DELIVERED, frames, 0, 0),
-        Answer::Acknowledged => answer_with(0, CAnswer::ACKNOWLEDGED, 0, 0, 0),
-        Answer::Discarded => answer_with(0, CAnswer::DISCARDED, 0, 0, 0),
-        Answer::Stored => answer_with(0, CAnswer::STORED, 0, 0, 0),
-        Answer::Received => answer_with(0, CAnswer::RECEIVED, 0, 0, 0),
-        Answer::NextBurst => answer_with(0, CAnswer::NEXT_BURST, 0, 0, 0),
-        Answer::NextBurstDelivers(frames) => answer_with(
-            0,
-            CAnswer::NEXT_BURST_DELIVERS,
-            frames,
-            0,
-            0,
-        ),
-        Answer::Repeated => answer_with(0, CAnswer::REPEATED, 0, 0, 0),
-        Answer::Response { iu, opened, frames } => answer_opened(
-            CAnswer::RESPONSE,
-            frames,
-            iu,
-            opened,
-        ),
+impl From<Answer> for CAnswer {
+    ghost from_gives = { λ a c. c ≡ c_answer_of (says a) };
+
+    fn from(a: Answer) -> CAnswer {
+        match a {
+            Answer::Refused(why) => why.into(),
+            Answer::Failed(why, frames) => CAnswer {
+                number: why.number(),
+                what: CAnswer::FAILED,
+                frames,
+                ..CAnswer::NONE
+            },
+            Answer::Wait => CAnswer::word(CAnswer::WAIT),
+            Answer::Frame(len) => CAnswer {
+                what: CAnswer::FRAME,
+                len,
+                ..CAnswer::NONE
+            },
+            Answer::Taken => CAnswer::word(CAnswer::TAKEN),
+            Answer::Retry => CAnswer::word(CAnswer::RETRY),
+            Answer::Unchanged => CAnswer::word(CAnswer::UNCHANGED),
+            Answer::Delivered(frames) => CAnswer {
+                what: CAnswer::DELIVERED,
+                frames,
+                ..CAnswer::NONE
+            },
+            Answer::Acknowledged => CAnswer::word(CAnswer::ACKNOWLEDGED),
+            Answer::Discarded => CAnswer::word(CAnswer::DISCARDED),
+            Answer::Stored => CAnswer::word(CAnswer::STORED),
+            Answer::Received => CAnswer::word(CAnswer::RECEIVED),
+            Answer::NextBurst => CAnswer::word(CAnswer::NEXT_BURST),
+            Answer::NextBurstDelivers(frames) => CAnswer {
+                what: CAnswer::NEXT_BURST_DELIVERS,
+                frames,
+                ..CAnswer::NONE
+            },
+            Answer::Repeated => CAnswer::word(CAnswer::REPEATED),
+            Answer::Response { iu, opened, frames } => CAnswer::opened(
+                CAnswer::RESPONSE,
+                frames,
+                iu,
+                opened,
+            ),
+        }
     }
 }
 
-// A set-up was taken.
-pub(crate) fn ready() -> CAnswer
-    ensures { result ≡ word 16 }
+// What a call leaves goes into the record that C lent, and C is told what it answers.
+pub(crate) fn leave<X: Copy>(y: Stepped<X>, s: &mut X) -> CAnswer
+    ensures { Leaves (stepped y) s.new result }
 {
-    answer_with(0, CAnswer::READY, 0, 0, 0)
+    *s = y.left;
+    y.answer.into()
+}
+
+// A set-up goes into the record that C lent; a refused one leaves it as it was.
+pub(crate) fn set_up<X: Copy>(y: Result<X, Refusal>, s: &mut X) -> CAnswer
+    ensures { SetsUp (or_refusal y) s.old s.new result }
+{
+    match y {
+        Ok(x) => {
+            *s = x;
+            CAnswer::word(CAnswer::READY)
+        }
+        Err(why) => why.into(),
+    }
 }
 
 // The same answer, field by field: so the compiler keeps the answer of the call before apart from the caller's own (docs/SPEED.md).

@@ -4,9 +4,8 @@ ghost use Rattle.frame.specs.Lent.{Shows};
 ghost use Rattle.frame.specs.Response.{response_iu_of};
 ghost use Rattle.ssp.specs.Sense.{response_answer, opened_in, sense_answered};
 
-use crate::answer;
 use crate::types::CAnswer;
-use status::{Answer, Opened, Part};
+use status::{Opened, Part};
 
 // An IU of any length: 32, 34, else kind, status and bytes of sense data.
 #[unsafe(no_mangle)]
@@ -14,7 +13,7 @@ pub extern "C" fn ssp_response_iu_read(iu: &[u8]) -> CAnswer
     ensures { result ≡ response_answer (response_iu_of iu.now) (length iu.now) }
 {
     match frame::read_response(iu) {
-        Ok(o) => answer::answer_opened(
+        Ok(o) => CAnswer::opened(
             CAnswer::PARSED,
             0,
             Part {
@@ -23,27 +22,28 @@ pub extern "C" fn ssp_response_iu_read(iu: &[u8]) -> CAnswer
             },
             o,
         ),
-        Err(why) => answer::c_answer(Answer::Failed(why, 0)),
+        Err(why) => why.into(),
     }
 }
 
-fn opened_in(a: CAnswer) -> Opened
-    ensures { result ≡ opened_in a }
-{
-    Opened {
-        kind: a.kind,
-        status: a.status,
-        sense: a.sense,
+impl From<CAnswer> for Opened {
+    ghost from_gives = { λ a o. o ≡ opened_in a };
+
+    fn from(a: CAnswer) -> Opened {
+        Opened {
+            kind: a.kind,
+            status: a.status,
+            sense: a.sense,
+        }
     }
 }
 
+#[tactic(auto, unfolding(crate::specs::Sense::sense_answered, status::specs::Pick::pick), using(frame::proofs::Parts::no_part))]
 fn sense_answered(a: CAnswer, bytes: &[u8]) -> &[u8]
     ensures { Shows result bytes.entry (sense_answered a bytes.now) }
 {
-    if (a.what == CAnswer::RESPONSE) | (a.what == CAnswer::PARSED) {
-        let start = a.start;
-        let len = a.len;
-        return frame::sense_of(opened_in(a), frame::part(bytes, start, len));
+    if a.what == CAnswer::RESPONSE || a.what == CAnswer::PARSED {
+        return frame::sense_of(a.into(), frame::part(bytes, a.start, a.len));
     }
     frame::part(bytes, 0, 0)
 }

@@ -3,35 +3,33 @@ ghost use Rattle.std.specs.Prelude.{◌≡◌, true, ◌+◌, length};
 ghost use Rattle.frame.specs.Write.{over};
 ghost use Rattle.sender_steps.specs.Transmit.{frame_of, sent_of, waits_of};
 ghost use Rattle.ssp.specs.CAnswer.{answer_with};
-ghost use Rattle.ssp.specs.ShortSend.{FullDue, Full, Sendable};
+ghost use Rattle.ssp.specs.ShortSend.{FullDue, Full, Sendable, last_told};
 
-use crate::answer;
 use crate::types::CAnswer;
 use sender_steps::Sender;
 
 // A frame of the full data size is due, and there is room for it. The last two tests stand here too, so that the compiler drops the writer's (docs/SPEED.md).
+// Joined by `&`: by `&&` a frame asked for in a write takes 12 instructions more.
 pub(crate) fn is_full_due(s: Sender, room: usize) -> bool
     ensures { result ≡ true → FullDue s room }
 {
     let t = s.transfer;
-    let b = s.burst;
     let past = (s.next as usize) + (t.size as usize);
     let length = 24 + (t.size as usize);
     !s.nak
         & (s.unanswered < t.window)
-        & (past <= (b.end as usize))
+        & (past <= (s.burst.end as usize))
         & (length <= room)
         & (t.size <= 1024)
         & (t.size % 4 == 0)
 }
 
 // No frame is due.
+#[tactic(auto, unfolding(sender_steps::specs::Transmit::waits_of))]
 pub(crate) fn waits(s: Sender) -> bool
     ensures { result ≡ waits_of s }
 {
-    let t = s.transfer;
-    let b = s.burst;
-    s.nak | (t.window <= s.unanswered) | (s.next == b.end)
+    s.nak || s.transfer.window <= s.unanswered || s.next == s.burst.end
 }
 
 // The frame is put down.
@@ -39,22 +37,39 @@ pub(crate) fn put_down(s: Sender, buffer: &[u8], out: &mut [u8]) -> CAnswer
     requires { Full s (length buffer.now) (length out.old) }
     ensures { (result ≡ answer_with 0 3 0 0 (24 + s.transfer.size)) × (out.new ≡ over (frame_of s buffer.now) out.old) }
 {
-    let t = s.transfer;
-    let from = (s.next - t.start) as usize;
-    let to = from + (t.size as usize);
+    let size = s.transfer.size as usize;
+    let from = (s.next - s.transfer.start) as usize;
+    let to = from + size;
     frame::write_full(sender_steps::header(s), &buffer[from..to], out);
-    answer::answer_with(0, CAnswer::FRAME, 0, 0, 24 + (t.size as usize))
+    CAnswer {
+        what: CAnswer::FRAME,
+        len: 24 + size,
+        ..CAnswer::NONE
+    }
 }
 
-// The record once it is handed out.
-pub(crate) fn sent(mut s: Sender) -> Sender
-    requires { Sendable s }
-    ensures { result ≡ sent_of s }
+// It is handed out.
+pub(crate) fn send(s: &mut Sender)
+    requires { Sendable s.old }
+    ensures { s.new ≡ sent_of s.old }
 {
-    let t = s.transfer;
-    s.next = s.next + t.size;
-    s.unanswered = s.unanswered + 1;
+    s.next += s.transfer.size;
+    s.unanswered += 1;
     s.cdp = false;
-    s.frames = s.frames + 1;
-    s
+    s.frames += 1;
+}
+
+// The ACK of the last frame: it is delivered, or more is to be sent.
+#[tactic(auto, unfolding(crate::specs::ShortSend::last_told, status::specs::Pick::pick))]
+pub(crate) fn last_told(s: Sender) -> CAnswer
+    ensures { result ≡ last_told s }
+{
+    if s.next == s.burst.end {
+        return CAnswer {
+            what: CAnswer::DELIVERED,
+            frames: s.frames,
+            ..CAnswer::NONE
+        };
+    }
+    CAnswer::word(CAnswer::TAKEN)
 }

@@ -1,79 +1,52 @@
-// The short path of a write at the target: what it tests, answers and leaves.
-ghost use Rattle.std.specs.Prelude.{◌≡◌, true, length, drop};
-ghost use Rattle.frame.specs.Write.{placed};
+// The short path of a write at the target: what it tests and leaves.
+ghost use Rattle.std.specs.Prelude.{◌≡◌, true, ◌≤◌, length};
+ghost use Rattle.frame.specs.Format.{field};
 ghost use Rattle.target.specs.Arrival.{lent_of};
 ghost use Rattle.target.specs.Record.{READY};
-ghost use Rattle.ssp.specs.ShortReceive.{Fits, WriteNext, stored_told, write_grown_of};
+ghost use Rattle.ssp.specs.ShortReceive.{Fits, Next, WriteNext, write_grown_of};
 
 use crate::short_receive;
-use crate::types::CAnswer;
 use target::Target;
 
-pub(crate) fn is_fitting(x: Target, bytes: &[u8], room: usize) -> bool
-    ensures { result ≡ true → Fits x.receiver (length bytes.now) }
-{
-    short_receive::is_fitting(x.receiver, bytes.len())
-}
-
 // Of a record whose XFER_RDY had its ACK: number 1 does not apply.
+// Joined by `&`: by `&&` an arrival takes 10 instructions more.
+#[tactic(auto, using(crate::proofs::TargetCases::lent_well))]
 fn is_lent(x: Target, room: usize) -> bool
     ensures { result ≡ true → x.state ≡ READY → x.receiver.transfer.write ≡ true → lent_of x room ≡ true }
 {
     let r = x.receiver;
     let t = r.transfer;
-    let count = t.count as usize;
-    let core = receiver_steps::holds(r);
-    core & (r.base < r.end)
+    receiver_steps::holds(r)
+        & (r.base < r.end)
         & (x.retries <= t.limit)
         & (x.since <= 16)
         & (x.elapsed <= t.irt)
-        & (room == count)
+        & (room == (t.count as usize))
 }
 
-// 1 and 2 do not apply, and the frame is the next one in order.
+// The frame is the next one in order, and carries the record's tag.
+fn is_due(x: Target, bytes: &[u8]) -> bool
+    ensures { result ≡ true → Fits x.receiver (length bytes.now) × Next x.receiver bytes.now × (field bytes.now 18 2 ≡ x.tptt) }
+{
+    short_receive::is_next(x.receiver, bytes) && frame::transfer_tag(bytes) == x.tptt
+}
+
+// 1 and 2 do not apply to such a frame.
 pub(crate) fn is_next(x: Target, bytes: &[u8], room: usize) -> bool
     ensures { result ≡ true → WriteNext x bytes.now room }
 {
     let r = x.receiver;
-    let t = r.transfer;
-    if !short_receive::is_fitting(r, bytes.len()) {
-        return false;
-    }
-    if !short_receive::is_next(r, bytes) {
-        return false;
-    }
-    if frame::transfer_tag(bytes) != x.tptt {
-        return false;
-    }
-    if !t.write {
-        return false;
-    }
-    if r.ended {
-        return false;
-    }
-    if x.state != Target::READY {
-        return false;
-    }
-    is_lent(x, room)
+    is_due(x, bytes) && r.transfer.write && !r.ended && x.state == Target::READY && is_lent(x, room)
 }
 
-pub(crate) fn store(x: Target, bytes: &[u8], buffer: &mut [u8]) -> CAnswer
-    requires { WriteNext x bytes.now (length buffer.old) }
-    ensures { (result ≡ stored_told x.receiver (length bytes.now)) × (buffer.new ≡ placed buffer.old x.receiver.expected (drop 24 bytes.now)) }
+// The data of a frame of n bytes is stored.
+pub(crate) fn grow(x: &mut Target, n: usize)
+    requires { (24 ≤ n) × Fits x.old.receiver n }
+    ensures { x.new ≡ write_grown_of x.old n }
 {
-    short_receive::store(x.receiver, bytes, buffer)
-}
-
-pub(crate) fn grown(mut x: Target, bytes: &[u8], room: usize) -> Target
-    requires { WriteNext x bytes.now room }
-    ensures { result ≡ write_grown_of x (length bytes.now) }
-{
-    let past = short_receive::past(x.receiver, bytes.len());
-    x.receiver.expected = past;
-    x.receiver.filled = past;
+    short_receive::grow(&mut x.receiver, n);
     x.elapsed = 0;
     x.stored = true;
     x.under = x.tptt;
     x.since = 0;
-    x
 }

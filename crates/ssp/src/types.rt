@@ -1,9 +1,4 @@
-// What C sees: the answer of every call, and what a call leaves of each record.
-use initiator::Writer;
-use receiver::Receiver;
-use response::Responder;
-use sender::Sender;
-use target::Target;
+// What C sees: the answer of every call, and the records of a frame.
 
 // The answer of a call. A field that a case does not name is 0.
 #[repr(C)]
@@ -25,7 +20,20 @@ pub struct CAnswer {
     pub sense: usize,
 }
 
+// C interface: an exported function cannot return an enum, so each case has a number (docs/DECISIONS.md).
 impl CAnswer {
+    // Every field is 0: the fields that a case does not name.
+    pub(crate) const NONE: CAnswer = CAnswer {
+        number: 0,
+        what: 0,
+        kind: 0,
+        status: 0,
+        frames: 0,
+        start: 0,
+        len: 0,
+        sense: 0,
+    };
+
     // 1 to 8: nothing changed
     pub const REFUSED: u8 = 0;
 
@@ -71,42 +79,6 @@ impl CAnswer {
     pub const PARSED: u8 = 17;
 }
 
-// What a call over each record leaves and answers.
-#[repr(C)]
-#[derive(Clone, Copy)]
-pub struct ReadTargetReturn {
-    pub left: Sender,
-    pub answer: CAnswer,
-}
-
-#[repr(C)]
-#[derive(Clone, Copy)]
-pub struct ReadInitiatorReturn {
-    pub left: Receiver,
-    pub answer: CAnswer,
-}
-
-#[repr(C)]
-#[derive(Clone, Copy)]
-pub struct WriteInitiatorReturn {
-    pub left: Writer,
-    pub answer: CAnswer,
-}
-
-#[repr(C)]
-#[derive(Clone, Copy)]
-pub struct WriteTargetReturn {
-    pub left: Target,
-    pub answer: CAnswer,
-}
-
-#[repr(C)]
-#[derive(Clone, Copy)]
-pub struct ResponseReturn {
-    pub left: Responder,
-    pub answer: CAnswer,
-}
-
 // A frame's header.
 #[repr(C)]
 #[derive(Clone, Copy)]
@@ -138,18 +110,4 @@ pub struct XferRdy {
     pub offset: u32,
     // write data length
     pub len: u32,
-}
-
-#[repr(C)]
-#[derive(Clone, Copy)]
-pub struct HeaderReturn {
-    pub left: Header,
-    pub answer: CAnswer,
-}
-
-#[repr(C)]
-#[derive(Clone, Copy)]
-pub struct XferRdyReturn {
-    pub left: XferRdy,
-    pub answer: CAnswer,
 }

@@ -1,6 +1,5 @@
 // A write at the initiator: its record in place.
 ghost use Rattle.std.specs.Prelude.{◌≡◌};
-ghost use Rattle.status.specs.Stepped.{stepped};
 ghost use Rattle.frame.specs.Write.{handing};
 ghost use Rattle.initiator.specs.WriteRecord.{set_up_write_of};
 ghost use Rattle.initiator.specs.WriteSend.{ack_of, nak_of, timeout_of, cut_of, loss_of, begun_of, next_of};
@@ -8,84 +7,25 @@ ghost use Rattle.sender_steps.specs.Transmit.{frame_of};
 ghost use Rattle.initiator.specs.WriteTake.{write_arrival_of};
 ghost use Rattle.ssp.specs.CAnswer.{Leaves, SetsUp};
 
-use crate::types::{CAnswer, WriteInitiatorReturn};
-use crate::{answer, short_write_initiator};
+use crate::types::CAnswer;
+use crate::{answer, short_send, short_write_initiator};
 use initiator::Writer;
-use status::{Answer, Stepped};
 use transfer::Transfer;
-
-fn returned(y: Stepped<Writer>) -> WriteInitiatorReturn
-    ensures { Leaves (stepped y) result.left result.answer }
-{
-    let left = y.writer;
-    let a = y.answer;
-    WriteInitiatorReturn {
-        left: left,
-        answer: answer::c_answer(a),
-    }
-}
-
-fn set_up(s: Writer, t: Transfer) -> WriteInitiatorReturn
-    ensures { SetsUp (set_up_write_of t) s result.left result.answer }
-{
-    match initiator::set_up_write(t) {
-        Ok(x) => WriteInitiatorReturn {
-            left: x,
-            answer: answer::ready(),
-        },
-        Err(why) => WriteInitiatorReturn {
-            left: s,
-            answer: answer::c_answer(Answer::Refused(why)),
-        },
-    }
-}
 
 // 1: the record stays as it was; else it is ready.
 #[unsafe(no_mangle)]
 pub extern "C" fn ssp_write_initiator_set_up(s: &mut Writer, t: Transfer) -> CAnswer
     ensures { SetsUp (set_up_write_of t) s.old s.new result }
 {
-    let r = set_up(*s, t);
-    *s = r.left;
-    r.answer
+    answer::set_up(initiator::set_up_write(t), s)
 }
 
-fn next_frame(s: Writer, buffer: &[u8], out: &mut [u8]) -> WriteInitiatorReturn
-    ensures { Leaves (next_of s buffer.now out.old) result.left result.answer × (out.new ≡ handing (next_of s buffer.now out.old).says (frame_of (begun_of s).sender buffer.now) out.old) }
-{
-    returned(initiator::write_next_frame(s, buffer, out))
-}
-
+// The body for every other case stays apart from the short paths (docs/SPEED.md).
+#[inline(never)]
 fn whole_next_frame(s: &mut Writer, buffer: &[u8], out: &mut [u8]) -> CAnswer
     ensures { Leaves (next_of s.old buffer.now out.old) s.new result × (out.new ≡ handing (next_of s.old buffer.now out.old).says (frame_of (begun_of s.old).sender buffer.now) out.old) }
 {
-    let r = next_frame(*s, buffer, out);
-    *s = r.left;
-    r.answer
-}
-
-// A full frame is due: the short path.
-fn next_full_frame(s: &mut Writer, buffer: &[u8], out: &mut [u8]) -> CAnswer
-    ensures { Leaves (next_of s.old buffer.now out.old) s.new result × (out.new ≡ handing (next_of s.old buffer.now out.old).says (frame_of (begun_of s.old).sender buffer.now) out.old) }
-{
-    if short_write_initiator::is_full_frame(*s, buffer, out.len()) {
-        let a = short_write_initiator::hand_out(*s, buffer, out);
-        *s = short_write_initiator::handed_out(*s, buffer, out.len());
-        return a;
-    }
-    answer::again(whole_next_frame(s, buffer, out))
-}
-
-// No frame is due: the short path.
-fn next_none(s: &mut Writer, buffer: &[u8], out: &mut [u8]) -> CAnswer
-    ensures { Leaves (next_of s.old buffer.now out.old) s.new result × (out.new ≡ handing (next_of s.old buffer.now out.old).says (frame_of (begun_of s.old).sender buffer.now) out.old) }
-{
-    if short_write_initiator::is_wait(*s, buffer, out.len()) {
-        let a = short_write_initiator::wait(*s, buffer, out);
-        *s = short_write_initiator::unchanged(*s, buffer, out.len());
-        return a;
-    }
-    answer::again(whole_next_frame(s, buffer, out))
+    answer::leave(initiator::write_next_frame(*s, buffer, out), s)
 }
 
 // 1, 2; wait; 3, else a frame of that length.
@@ -97,65 +37,43 @@ pub extern "C" fn ssp_write_initiator_next_frame(
 ) -> CAnswer
     ensures { Leaves (next_of s.old buffer.now out.old) s.new result × (out.new ≡ handing (next_of s.old buffer.now out.old).says (frame_of (begun_of s.old).sender buffer.now) out.old) }
 {
-    if short_write_initiator::is_due(*s, buffer, out.len()) {
-        return next_full_frame(s, buffer, out);
+    if short_write_initiator::is_full_due(*s, out.len()) {
+        if short_write_initiator::is_lent(*s, buffer.len()) {
+            let a = short_send::put_down(s.sender, buffer, out);
+            short_write_initiator::send(s, buffer.len(), out.len());
+            return a;
+        }
+    } else if short_write_initiator::is_wait(*s, buffer.len()) {
+        return CAnswer::word(CAnswer::WAIT);
     }
-    next_none(s, buffer, out)
+    answer::again(whole_next_frame(s, buffer, out))
 }
 
-fn ack_received(s: Writer) -> WriteInitiatorReturn
-    ensures { Leaves (ack_of s) result.left result.answer }
-{
-    returned(initiator::write_ack_received(s))
-}
-
+// As above.
+#[inline(never)]
 fn whole_ack_received(s: &mut Writer) -> CAnswer
     ensures { Leaves (ack_of s.old) s.new result }
 {
-    let r = ack_received(*s);
-    *s = r.left;
-    r.answer
-}
-
-// Frames stay unanswered: the short path.
-fn ack_of_many(s: &mut Writer) -> CAnswer
-    ensures { Leaves (ack_of s.old) s.new result }
-{
-    if short_write_initiator::is_one_of_many(*s) {
-        let a = short_write_initiator::taken(*s);
-        *s = short_write_initiator::one_less(*s);
-        return a;
-    }
-    answer::again(whole_ack_received(s))
-}
-
-// The last one due, no burst is taken and no NAK is pending: the short path.
-fn ack_of_last(s: &mut Writer) -> CAnswer
-    ensures { Leaves (ack_of s.old) s.new result }
-{
-    if short_write_initiator::is_last(*s) {
-        let a = short_write_initiator::last_told(*s);
-        *s = short_write_initiator::last_left(*s);
-        return a;
-    }
-    answer::again(whole_ack_received(s))
+    answer::leave(initiator::write_ack_received(*s), s)
 }
 
 // 1, 2, 4; taken, delivered, retry, or 28 (a NAK is pending).
 #[unsafe(no_mangle)]
+#[tactic(auto, using(crate::proofs::WriteCases::one_of_many, crate::proofs::WriteCases::last_one))]
 pub extern "C" fn ssp_write_initiator_ack_received(s: &mut Writer) -> CAnswer
     ensures { Leaves (ack_of s.old) s.new result }
 {
-    if short_write_initiator::many_unanswered(*s) {
-        return ack_of_many(s);
+    if 1 < s.sender.unanswered {
+        if short_write_initiator::is_open(*s) {
+            s.sender.unanswered -= 1;
+            return CAnswer::word(CAnswer::TAKEN);
+        }
+    } else if short_write_initiator::is_last(*s) {
+        let a = short_send::last_told(s.sender);
+        s.sender.unanswered = 0;
+        return a;
     }
-    ack_of_last(s)
-}
-
-fn nak_received(s: Writer) -> WriteInitiatorReturn
-    ensures { Leaves (nak_of s) result.left result.answer }
-{
-    returned(initiator::write_nak_received(s))
+    answer::again(whole_ack_received(s))
 }
 
 // 1, 2, 4; taken, retry, or 28.
@@ -163,15 +81,7 @@ fn nak_received(s: Writer) -> WriteInitiatorReturn
 pub extern "C" fn ssp_write_initiator_nak_received(s: &mut Writer) -> CAnswer
     ensures { Leaves (nak_of s.old) s.new result }
 {
-    let r = nak_received(*s);
-    *s = r.left;
-    r.answer
-}
-
-fn ack_nak_timeout(s: Writer) -> WriteInitiatorReturn
-    ensures { Leaves (timeout_of s) result.left result.answer }
-{
-    returned(initiator::write_ack_nak_timeout(s))
+    answer::leave(initiator::write_nak_received(*s), s)
 }
 
 // 1, 2, 4; taken, retry, 28 (a NAK is pending) or 29.
@@ -179,15 +89,7 @@ fn ack_nak_timeout(s: Writer) -> WriteInitiatorReturn
 pub extern "C" fn ssp_write_initiator_ack_nak_timeout(s: &mut Writer) -> CAnswer
     ensures { Leaves (timeout_of s.old) s.new result }
 {
-    let r = ack_nak_timeout(*s);
-    *s = r.left;
-    r.answer
-}
-
-fn connection_lost(s: Writer) -> WriteInitiatorReturn
-    ensures { Leaves (cut_of s) result.left result.answer }
-{
-    returned(initiator::write_connection_lost(s))
+    answer::leave(initiator::write_ack_nak_timeout(*s), s)
 }
 
 // 1, 2; unchanged, taken, retry, 28 (a NAK is pending) or 30.
@@ -195,15 +97,7 @@ fn connection_lost(s: Writer) -> WriteInitiatorReturn
 pub extern "C" fn ssp_write_initiator_connection_lost(s: &mut Writer) -> CAnswer
     ensures { Leaves (cut_of s.old) s.new result }
 {
-    let r = connection_lost(*s);
-    *s = r.left;
-    r.answer
-}
-
-fn nexus_lost(s: Writer) -> WriteInitiatorReturn
-    ensures { Leaves (loss_of s) result.left result.answer }
-{
-    returned(initiator::write_nexus_lost(s))
+    answer::leave(initiator::write_connection_lost(*s), s)
 }
 
 // 1, 2, else 31.
@@ -211,15 +105,7 @@ fn nexus_lost(s: Writer) -> WriteInitiatorReturn
 pub extern "C" fn ssp_write_initiator_nexus_lost(s: &mut Writer) -> CAnswer
     ensures { Leaves (loss_of s.old) s.new result }
 {
-    let r = nexus_lost(*s);
-    *s = r.left;
-    r.answer
-}
-
-fn frame_received(s: Writer, bytes: &[u8]) -> WriteInitiatorReturn
-    ensures { Leaves (write_arrival_of s bytes.now) result.left result.answer }
-{
-    returned(initiator::write_frame_received(s, bytes))
+    answer::leave(initiator::write_nexus_lost(*s), s)
 }
 
 // 1, 2, 5, 6, 7, 8; XFER_RDY 23, 24, 27, 26, 25, else which burst it is for; RESPONSE 32, 34, else what its IU says and where it stands.
@@ -227,7 +113,5 @@ fn frame_received(s: Writer, bytes: &[u8]) -> WriteInitiatorReturn
 pub extern "C" fn ssp_write_initiator_frame_received(s: &mut Writer, bytes: &[u8]) -> CAnswer
     ensures { Leaves (write_arrival_of s.old bytes.now) s.new result }
 {
-    let r = frame_received(*s, bytes);
-    *s = r.left;
-    r.answer
+    answer::leave(initiator::write_frame_received(*s, bytes), s)
 }

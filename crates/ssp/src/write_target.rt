@@ -1,6 +1,5 @@
 // A write at the target: its record in place.
 ghost use Rattle.std.specs.Prelude.{◌≡◌, length};
-ghost use Rattle.status.specs.Stepped.{stepped};
 ghost use Rattle.frame.specs.Read.{header_in, iu_of};
 ghost use Rattle.receiver_steps.specs.DataFrame.{storing};
 ghost use Rattle.frame.specs.Write.{handing};
@@ -11,52 +10,17 @@ ghost use Rattle.target.specs.Arrival.{write_arrival_of};
 ghost use Rattle.target.specs.Time.{time_of};
 ghost use Rattle.ssp.specs.CAnswer.{Leaves, SetsUp};
 
-use crate::types::{CAnswer, WriteTargetReturn};
-use crate::{answer, short_write_target};
-use status::{Answer, Stepped};
+use crate::types::CAnswer;
+use crate::{answer, short_receive, short_write_target};
 use target::Target;
 use transfer::Transfer;
-
-fn returned(y: Stepped<Target>) -> WriteTargetReturn
-    ensures { Leaves (stepped y) result.left result.answer }
-{
-    let left = y.target;
-    let a = y.answer;
-    WriteTargetReturn {
-        left: left,
-        answer: answer::c_answer(a),
-    }
-}
-
-fn set_up(s: Target, t: Transfer) -> WriteTargetReturn
-    ensures { SetsUp (set_up_write_of t) s result.left result.answer }
-{
-    match target::set_up_write(t) {
-        Ok(x) => WriteTargetReturn {
-            left: x,
-            answer: answer::ready(),
-        },
-        Err(why) => WriteTargetReturn {
-            left: s,
-            answer: answer::c_answer(Answer::Refused(why)),
-        },
-    }
-}
 
 // 1: the record stays as it was; else it is ready.
 #[unsafe(no_mangle)]
 pub extern "C" fn ssp_write_target_set_up(s: &mut Target, t: Transfer) -> CAnswer
     ensures { SetsUp (set_up_write_of t) s.old s.new result }
 {
-    let r = set_up(*s, t);
-    *s = r.left;
-    r.answer
-}
-
-fn next_frame(s: Target, out: &mut [u8]) -> WriteTargetReturn
-    ensures { Leaves (next_of s out.old) result.left result.answer × (out.new ≡ handing (next_of s out.old).says (frame_of s) out.old) }
-{
-    returned(target::write_next_frame(s, out))
+    answer::set_up(target::set_up_write(t), s)
 }
 
 // 1, 2; wait; 3, else an XFER_RDY of that length.
@@ -64,15 +28,7 @@ fn next_frame(s: Target, out: &mut [u8]) -> WriteTargetReturn
 pub extern "C" fn ssp_write_target_next_frame(s: &mut Target, out: &mut [u8]) -> CAnswer
     ensures { Leaves (next_of s.old out.old) s.new result × (out.new ≡ handing (next_of s.old out.old).says (frame_of s.old) out.old) }
 {
-    let r = next_frame(*s, out);
-    *s = r.left;
-    r.answer
-}
-
-fn ack_received(s: Target) -> WriteTargetReturn
-    ensures { Leaves (ack_of s) result.left result.answer }
-{
-    returned(target::write_ack_received(s))
+    answer::leave(target::write_next_frame(*s, out), s)
 }
 
 // 1, 2, 4, else acknowledged.
@@ -80,15 +36,7 @@ fn ack_received(s: Target) -> WriteTargetReturn
 pub extern "C" fn ssp_write_target_ack_received(s: &mut Target) -> CAnswer
     ensures { Leaves (ack_of s.old) s.new result }
 {
-    let r = ack_received(*s);
-    *s = r.left;
-    r.answer
-}
-
-fn nak_received(s: Target) -> WriteTargetReturn
-    ensures { Leaves (nak_of s) result.left result.answer }
-{
-    returned(target::write_nak_received(s))
+    answer::leave(target::write_ack_received(*s), s)
 }
 
 // 1, 2, 4; retry or 28.
@@ -96,15 +44,7 @@ fn nak_received(s: Target) -> WriteTargetReturn
 pub extern "C" fn ssp_write_target_nak_received(s: &mut Target) -> CAnswer
     ensures { Leaves (nak_of s.old) s.new result }
 {
-    let r = nak_received(*s);
-    *s = r.left;
-    r.answer
-}
-
-fn ack_nak_timeout(s: Target) -> WriteTargetReturn
-    ensures { Leaves (timeout_of s) result.left result.answer }
-{
-    returned(target::write_ack_nak_timeout(s))
+    answer::leave(target::write_nak_received(*s), s)
 }
 
 // 1, 2, 4; retry or 29.
@@ -112,15 +52,7 @@ fn ack_nak_timeout(s: Target) -> WriteTargetReturn
 pub extern "C" fn ssp_write_target_ack_nak_timeout(s: &mut Target) -> CAnswer
     ensures { Leaves (timeout_of s.old) s.new result }
 {
-    let r = ack_nak_timeout(*s);
-    *s = r.left;
-    r.answer
-}
-
-fn connection_lost(s: Target) -> WriteTargetReturn
-    ensures { Leaves (cut_of s) result.left result.answer }
-{
-    returned(target::write_connection_lost(s))
+    answer::leave(target::write_ack_nak_timeout(*s), s)
 }
 
 // 1, 2; unchanged, retry or 30.
@@ -128,15 +60,7 @@ fn connection_lost(s: Target) -> WriteTargetReturn
 pub extern "C" fn ssp_write_target_connection_lost(s: &mut Target) -> CAnswer
     ensures { Leaves (cut_of s.old) s.new result }
 {
-    let r = connection_lost(*s);
-    *s = r.left;
-    r.answer
-}
-
-fn nexus_lost(s: Target) -> WriteTargetReturn
-    ensures { Leaves (loss_of s) result.left result.answer }
-{
-    returned(target::write_nexus_lost(s))
+    answer::leave(target::write_connection_lost(*s), s)
 }
 
 // 1, 2, else 31.
@@ -144,15 +68,7 @@ fn nexus_lost(s: Target) -> WriteTargetReturn
 pub extern "C" fn ssp_write_target_nexus_lost(s: &mut Target) -> CAnswer
     ensures { Leaves (loss_of s.old) s.new result }
 {
-    let r = nexus_lost(*s);
-    *s = r.left;
-    r.answer
-}
-
-fn time_reported(s: Target, milliseconds: u16) -> WriteTargetReturn
-    ensures { Leaves (time_of s milliseconds) result.left result.answer }
-{
-    returned(target::write_time_reported(s, milliseconds))
+    answer::leave(target::write_nexus_lost(*s), s)
 }
 
 // 1, 2; unchanged outside the span; 33 or taken.
@@ -160,41 +76,15 @@ fn time_reported(s: Target, milliseconds: u16) -> WriteTargetReturn
 pub extern "C" fn ssp_write_target_time_reported(s: &mut Target, milliseconds: u16) -> CAnswer
     ensures { Leaves (time_of s.old milliseconds) s.new result }
 {
-    let r = time_reported(*s, milliseconds);
-    *s = r.left;
-    r.answer
+    answer::leave(target::write_time_reported(*s, milliseconds), s)
 }
 
-fn frame_received(s: Target, bytes: &[u8], buffer: &mut [u8]) -> WriteTargetReturn
-    ensures { Leaves (write_arrival_of s bytes.now (length buffer.old)) result.left result.answer × (buffer.new ≡ storing (write_arrival_of s bytes.now (length buffer.old)).says (header_in bytes.now).offset (iu_of bytes.now) buffer.old) }
-{
-    returned(target::write_frame_received(s, bytes, buffer))
-}
-
+// The body for every other case stays apart from the short path (docs/SPEED.md).
+#[inline(never)]
 fn whole_frame_received(s: &mut Target, bytes: &[u8], buffer: &mut [u8]) -> CAnswer
     ensures { Leaves (write_arrival_of s.old bytes.now (length buffer.old)) s.new result × (buffer.new ≡ storing (write_arrival_of s.old bytes.now (length buffer.old)).says (header_in bytes.now).offset (iu_of bytes.now) buffer.old) }
 {
-    let r = frame_received(*s, bytes, buffer);
-    *s = r.left;
-    r.answer
-}
-
-// The next DATA frame in order: the short path.
-fn next_received(s: &mut Target, bytes: &[u8], buffer: &mut [u8]) -> CAnswer
-    ensures { Leaves (write_arrival_of s.old bytes.now (length buffer.old)) s.new result × (buffer.new ≡ storing (write_arrival_of s.old bytes.now (length buffer.old)).says (header_in bytes.now).offset (iu_of bytes.now) buffer.old) }
-{
-    if short_write_target::is_next(*s, bytes, buffer.len()) {
-        let a = short_write_target::store(*s, bytes, buffer);
-        *s = short_write_target::grown(*s, bytes, buffer.len());
-        return a;
-    }
-    answer::again(whole_frame_received(s, bytes, buffer))
-}
-
-fn other_received(s: &mut Target, bytes: &[u8], buffer: &mut [u8]) -> CAnswer
-    ensures { Leaves (write_arrival_of s.old bytes.now (length buffer.old)) s.new result × (buffer.new ≡ storing (write_arrival_of s.old bytes.now (length buffer.old)).says (header_in bytes.now).offset (iu_of bytes.now) buffer.old) }
-{
-    answer::again(whole_frame_received(s, bytes, buffer))
+    answer::leave(target::write_frame_received(*s, bytes, buffer), s)
 }
 
 // 1, 2, 5, 6, 7, 8; DATA discarded, 20, 21, 22, stored or received.
@@ -206,8 +96,10 @@ pub extern "C" fn ssp_write_target_frame_received(
 ) -> CAnswer
     ensures { Leaves (write_arrival_of s.old bytes.now (length buffer.old)) s.new result × (buffer.new ≡ storing (write_arrival_of s.old bytes.now (length buffer.old)).says (header_in bytes.now).offset (iu_of bytes.now) buffer.old) }
 {
-    if short_write_target::is_fitting(*s, bytes, buffer.len()) {
-        return next_received(s, bytes, buffer);
+    if short_write_target::is_next(*s, bytes, buffer.len()) {
+        let a = short_receive::store(s.receiver, bytes, buffer);
+        short_write_target::grow(s, bytes.len());
+        return a;
     }
-    other_received(s, bytes, buffer)
+    answer::again(whole_frame_received(s, bytes, buffer))
 }

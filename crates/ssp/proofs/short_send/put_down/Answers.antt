@@ -1,3 +1,4 @@
+use mathlib.Core.Path.{refl}
 use native.Mathlib.Omega.{arith}
 use Rattle.ssp.proofs.FullFrame.{fitting, put_full_lem}
 use Rattle.ssp.proofs.short_send.put_down.Goals as goal
@@ -12,4 +13,4 @@ pub returns : goal.returns
 returns c =
     let s = c in
     let a = s.args in
-    (c.answer_with.ensures, put_full_lem a.s a.buffer.now a.out.now s.requires c.header.ensures c.write_full.ensures.1)
+    (refl, put_full_lem a.s a.buffer.now a.out.now s.requires c.header.ensures c.write_full.ensures.1)

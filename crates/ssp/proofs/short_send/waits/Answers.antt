@@ -1,7 +1,0 @@
-use mathlib.Core.Path.{refl}
-use Rattle.sender_steps.specs.Transmit.{waits_of}
-use Rattle.ssp.proofs.short_send.waits.Goals as goal
-
-pub returns : goal.returns
-unfolding waits_of
-returns c = refl

@@ -1,5 +1,0 @@
-use Rattle.ssp.proofs.WriteCases.{holds_well}
-use Rattle.ssp.proofs.short_write_initiator.holds.Goals as goal
-
-pub returns : goal.returns
-returns c = holds_well c.args.w c.holds-core.ensures

@@ -1,5 +1,0 @@
-use Rattle.ssp.proofs.WriteCases.{one_of_many}
-use Rattle.ssp.proofs.write_initiator.ack_of_many.Goals as goal
-
-pub returns-then-is_one_of_many : goal.returns-then-is_one_of_many
-returns-then-is_one_of_many c = one_of_many _ _ _ (c.is_one_of_many.ensures c.if-is_one_of_many.true) c.taken-a.ensures c.one_less.ensures
