@@ -1,4 +1,5 @@
 -- The line at a place of a file, and the lines behind it.
+use Rattle.std.proofs.lemmas.Result.{err_from_is_err_and}
 use Rattle.std.specs.Prelude.{Some, is_some}
 use Prim.Native.Nat.{ℕ, ◌+◌, ◌≤◌, ◌<◌}
 use mathlib.Core.List.{List, [], ◌∷◌}
@@ -32,6 +33,8 @@ misfit_at s at n p =
     let sums : at + (length (before LF (drop at s)) + 1) ≡ at + length (before LF (drop at s)) + 1 = omega arith in
     rw (lines_at s at p, sums) refl
 
+pub ruleset line_by_line = (misfit_at, lines_end)
+
 -- the whole file
 pub too_long : (b : List ℕ) → MOST-BYTES < length b → file_of b ≡ refused 0
 unfolding file_of
@@ -46,3 +49,5 @@ of_lines (x ∷ xs) p =
     let rest : drop (n + 1) b ≡ behind LF b = rw (add-one n) (drop_before LF b) in
     let cut : lines b ≡ before LF b ∷ lines (drop (n + 1) b) = rw rest (some_lines b (omega arith)) in
     sym (in_true _ _ _ _ (le-leb (length b) MOST-BYTES p) (rw cut refl))
+
+pub ruleset whole_file = (too_long, of_lines, err_from_is_err_and)

@@ -1,4 +1,5 @@
 // What is printed. Each printer prints at `at` and answers the place behind it.
+// A struct of buffer and place is no plainer: each printer would also promise that it holds the same borrow.
 ghost use Rattle.std.specs.Prelude.{ℕ, List, [], ◌∷◌, ◌+◌, ◌≤◌, ◌<◌, length};
 ghost use Rattle.std.proofs.Common.{lit<};
 ghost use Rattle.ladder_text.specs.Decimal.{decimal};

@@ -7,7 +7,7 @@ use crate::types::{Fate, Misfit, NextFate, RunFile};
 use crate::{rows, text, words};
 
 // The number of the first line from place `from` on that is no fate, counted from 2.
-#[tactic(auto, using(crate::proofs::FileSteps::misfit_at, crate::proofs::FileSteps::lines_end), unfolding(crate::specs::Pick::pick))]
+#[tactic(auto, using(crate::proofs::FileSteps::line_by_line), unfolding(crate::specs::Pick::pick))]
 fn first_misfit(s: &[u8], from: usize) -> Option<u32>
     requires { length s.now ≤ MOST-BYTES }
     ensures { result ≡ misfit 2 (lines (drop from s.now)) }
@@ -27,7 +27,7 @@ fn first_misfit(s: &[u8], from: usize) -> Option<u32>
 }
 
 // A whole run file, any bytes.
-#[tactic(auto, using(crate::proofs::FileSteps::too_long, crate::proofs::FileSteps::of_lines, std::proofs::lemmas::Result::err_from_is_err_and))]
+#[tactic(auto, using(crate::proofs::FileSteps::whole_file))]
 pub fn read_run_file(s: &[u8]) -> Result<RunFile, Misfit>
     ensures { result ≡ file_of s.now }
 {

@@ -120,6 +120,7 @@ pub fn read_fate(s: &[u8]) -> Option<Fate>
 }
 
 // The word or the number that s is.
+// A `match` on byte strings was tried: its last arm has a goal for each byte that may differ, and these stay open.
 #[tactic(auto, unfolding(crate::specs::Words::receipt_of))]
 pub fn read_receipt(s: &[u8]) -> Option<Receipt>
     ensures { result ≡ receipt_of s.now }
