@@ -22,7 +22,8 @@ use Rattle.frame.specs.XferRdy.{xfer_rdy_of}
 use Rattle.frame.specs.Response.{kind_in, needing, by_kind, response_iu_of}
 use Rattle.frame.specs.declared.types.Parsed.{Parsed}
 use Rattle.frame.specs.declared.types.XferRdy.{XferRdy}
-use Rattle.arrival.specs.Accept.{is_taken, screen_of, screened, class_of, accept_of}
+use Rattle.std.specs.Prelude.{Option, Some, None}
+use Rattle.arrival.specs.Accept.{screen_of, screened, class_of, accept_of}
 use Rattle.arrival.specs.declared.Role.{Role}
 use Rattle.arrival.specs.declared.Role.TheVariants.{ReadInitiator, WriteTarget}
 use Rattle.arrival.specs.declared.Class.{Class}
@@ -72,12 +73,12 @@ decoded : (f : List ℕ) → Within (decode f)
 unfolding decode
 decoded f = picked Within (well_formed f) _ _ (picked Within (is_type (get_or f 0 0)) (Result.value (parsed f)) (Result.number 6) tt (omega arith)) (omega arith)
 
-screens : (t : Transfer) (k : Class) (p : Parsed) → Within (screen_of t k p)
+screens : (t : Transfer) (k : Option Class) (p : Parsed) → Within (screen_of t k p)
 unfolding screen_of
-screens t k p =
-    picked Within (not (is_taken k)) _ _ (omega arith)
-    (picked Within (not (eqb p.header.dest t.local) || not (eqb p.header.source t.remote)) _ _ (omega arith)
-    (picked Within (not (eqb p.header.tag t.tag)) (Result.number 8) (Result.value (record { class = k; header = p.header; start = p.start; len = p.len })) (omega arith) tt))
+screens t None p = omega arith
+screens t (Some k) p =
+    picked Within (not (eqb p.header.dest t.local) || not (eqb p.header.source t.remote)) _ _ (omega arith)
+    (picked Within (not (eqb p.header.tag t.tag)) (Result.number 8) (Result.value (record { class = k; header = p.header; start = p.start; len = p.len })) (omega arith) tt)
 
 accepts : (role : Role) (t : Transfer) (f : List ℕ) → Within (accept_of role t f)
 unfolding accept_of
@@ -134,7 +135,6 @@ read_numbered r f m = entered (entry_of (reading.read_lent_of r m) r.ended) r _ 
     by_class Class.Data a = data_numbered r a.header.offset a.header.flags.cdp a.len m
     by_class Class.XferRdy a = xfer_rdy_numbered r _
     by_class Class.Response a = response_numbered r a.start a.len _
-    by_class Class.Other a = omega arith
 
     go : (x : Result Arrived) → Within x → Numbered (reading.arrived_by x r f m).says
     go (Result.number n) h = h

@@ -18,6 +18,7 @@ use Rattle.frame.specs.Read.{header_in, iu_of, iu_length}
 use Rattle.frame.specs.PlainData.{PlainData, plain_header}
 use Rattle.frame.specs.Write.{placed}
 use Rattle.frame.specs.declared.types.Header.{Header}
+use Rattle.std.specs.Prelude.{Some}
 use Rattle.arrival.specs.Accept.{class_of, screen_of, screened, accept_of}
 use Rattle.arrival.specs.declared.Role.{Role}
 use Rattle.arrival.specs.declared.Role.TheVariants.{ReadInitiator}
@@ -59,7 +60,7 @@ stores_so false = refl
 abbrev arrived : Transfer → List ℕ → ℕ → Arrived
 arrived t f o = record { class = Class.Data; header = plain_header t.local t.remote t.tag (field f 18 2) o; start = 24; len = iu_length f }
 
-pub accepts : (role : Role) (t : Transfer) (f : List ℕ) (o : ℕ) → class_of role DATA ≡ Class.Data → PlainData f t.local t.remote t.tag o → accept_of role t f ≡ Result.value (arrived t f o)
+pub accepts : (role : Role) (t : Transfer) (f : List ℕ) (o : ℕ) → class_of role DATA ≡ Some Class.Data → PlainData f t.local t.remote t.tag o → accept_of role t f ≡ Result.value (arrived t f o)
 unfolding accept_of screen_of pick
 accepts role t f o k p =
     ap (λ (x : Result _). screened x role t) p.read ∙ ap (λ (h : Header). screen_of t (class_of role h.frametype) (record { header = h; start = 24; len = iu_length f })) p.header ∙
@@ -108,7 +109,7 @@ is_stored r f m l o fit q = rw (open_entry _ _ l o) (go _ (judged r r.expected f
 pub buffer_so : (a : Said) (o : ℕ) (f d zs : List ℕ) (h : Header) → stores a ≡ true → header_in f ≡ h → h.offset ≡ o → iu_of f ≡ drop 24 f → zs ≡ placed d o (drop 24 f) → zs ≡ step.storing a (header_in f).offset (iu_of f) d
 buffer_so a o f d zs h s e w i z = z ∙ ap (λ (k : ℕ). placed d k (drop 24 f)) (sym w ∙ ap (λ (x : Header). x.offset) (sym e)) ∙ ap (placed d (header_in f).offset) (sym i) ∙ sym (ap (λ (t : Bool). mathlib.Core.Bool.cond t (placed d (header_in f).offset (iu_of f)) d) s)
 
-data_read : class_of ReadInitiator DATA ≡ Class.Data
+data_read : class_of ReadInitiator DATA ≡ Some Class.Data
 unfolding class_of pick
 data_read = refl
 

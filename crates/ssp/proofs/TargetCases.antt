@@ -15,6 +15,7 @@ use Rattle.frame.specs.Format.{DATA, field}
 use Rattle.frame.specs.Read.{header_in, iu_of}
 use Rattle.frame.specs.PlainData.{PlainData, transfer_tag}
 use Rattle.frame.specs.Write.{placed}
+use Rattle.std.specs.Prelude.{Some}
 use Rattle.arrival.specs.Accept.{class_of}
 use Rattle.arrival.specs.declared.Role.TheVariants.{WriteTarget}
 use Rattle.arrival.specs.declared.Class.{Class}
@@ -43,7 +44,7 @@ lent_well x m e s w =
 pub tag_is : {f : List ℕ} {d s t o k v : ℕ} → PlainData f d s t o → k ≡ transfer_tag f → k ≡ v → field f 18 2 ≡ v
 tag_is {f} p e r = in_true (leb 20 (length f)) (field f 18 2) (field f 18 2) 0 (le-leb 20 (length f) (omega (arith, p.least))) refl ∙ sym e ∙ r
 
-data_write : class_of WriteTarget DATA ≡ Class.Data
+data_write : class_of WriteTarget DATA ≡ Some Class.Data
 unfolding class_of pick
 data_write = refl
 
