@@ -1,4 +1,5 @@
-// The run of a ladder ("The ladder program"): two ports, the frames between them and their fates; its rows and its verdict one by one, as values.
+// The run of a ladder ("The ladder program"): two ports, the frames between them and their fates.
+// Its rows and its verdict come one by one, as values.
 #![tactic(auto)]
 
 mod ends;

@@ -51,7 +51,8 @@ fn begin(x: Next<Option<Row>>, fates: &[u8]) -> Next<Line>
     }
 }
 
-// The next row, or the verdict once nothing more is due: the fates, the data sent, the data received. After the verdict the same again.
+// The next row, or the verdict once nothing more is due: the fates, the data sent, the data received.
+// After the verdict the same again.
 #[tactic(auto, unfolding(crate::specs::Line::line_of))]
 pub fn next_line(l: Ladder, fates: &[u8], source: &[u8], received: &mut [u8]) -> Next<Line>
     ensures { next_line_by result received.new ≡ line_of l fates.now source.now received.old }

@@ -40,7 +40,8 @@ pub struct Ladder {
 }
 
 impl Ladder {
-    // no ladder of a run file has more rows: 21,844 fates listed, 63 more frames of that window, 16,384 frames of a faultless transfer
+    // no ladder of a run file has more rows: 21,844 fates listed, 63 more frames of that window,
+    // 16,384 frames of a faultless transfer
     pub const ROWS_MOST: u32 = 38_291;
 
     // the byte count at most
