@@ -11,7 +11,7 @@ pub(crate) fn gather(input: &[u8], from: usize, fates: &mut [u8]) -> usize
     requires { length (fates_at input.now from) ≤ length fates.old }
     ensures { (result ≡ length (fates_at input.now from)) × (fates.new ≡ placed fates.old 0 (map fate_number (fates_at input.now from))) }
 {
-    // A `for` over `fates` is no plainer: it ends where the buffer is full, too, and counts there once more.
+    // A `for` over `fates` is no plainer: it also ends where the buffer is full, with a second answer.
     let mut at = from;
     let mut n = 0;
     while at < input.len() {

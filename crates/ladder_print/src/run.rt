@@ -22,6 +22,7 @@ pub(crate) fn start(input: &[u8]) -> Result<Start<'_>, Misfit>
             file,
             input,
         }),
+        // there is no such line one (crate ladder_claim, `SetsUp`)
         Err(_) => Err(Misfit { line: 1 }),
     }
 }
