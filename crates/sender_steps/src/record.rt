@@ -5,20 +5,23 @@ ghost use Rattle.sender_steps.specs.Record.{holds_of, lent_of, beginning};
 use crate::types::{Burst, Sender};
 use transfer::Transfer;
 
-// Number 1 does not apply: limits, marks and counts are in order.
+// Number 1 does not apply: limits, marks and counts are in order. Transfer and burst are copied first: read through `s`,
+// their fields took 7 to 10 instructions a call more (docs/SPEED.md).
 #[tactic(auto, unfolding(crate::specs::Record::holds_of, crate::specs::Record::tests))]
 pub fn holds(s: Sender) -> bool
     ensures { result ≡ holds_of s }
 {
-    s.transfer.limits_hold()
-        & (s.transfer.start <= s.burst.base)
-        & (s.burst.base <= s.balance)
+    let t = s.transfer;
+    let b = s.burst;
+    t.limits_hold()
+        & (t.start <= b.base)
+        & (b.base <= s.balance)
         & (s.balance <= s.next)
-        & (s.next <= s.burst.end)
-        & ((s.burst.end as usize) <= s.transfer.past())
-        & (s.unanswered <= s.transfer.window)
-        & (s.burst.limit <= s.transfer.limit)
-        & (s.retries <= s.burst.limit)
+        & (s.next <= b.end)
+        & ((b.end as usize) <= t.past())
+        & (s.unanswered <= t.window)
+        & (b.limit <= t.limit)
+        & (s.retries <= b.limit)
         & (s.frames < Sender::FRAMES_END)
 }
 

@@ -20,6 +20,18 @@ impl CAnswer {
         }
     }
 
+    // A failure after that many frames, 0 at a reader of IUs.
+    pub(crate) fn failed(why: Failure, frames: u64) -> CAnswer
+        ensures { result ≡ answer_with (failure_number why) FAILED frames 0 0 }
+    {
+        CAnswer {
+            number: why.number(),
+            what: CAnswer::FAILED,
+            frames,
+            ..CAnswer::NONE
+        }
+    }
+
     // A RESPONSE's IU: where it stands, and what it says.
     pub(crate) fn opened(what: u8, frames: u64, iu: Part, o: Opened) -> CAnswer
         ensures { result ≡ opens what frames iu.start iu.len o }
@@ -49,19 +61,6 @@ impl From<Refusal> for CAnswer {
     }
 }
 
-// Of a reader, which hands out no frames.
-impl From<Failure> for CAnswer {
-    ghost from_gives = { λ why a. a ≡ answer_with (failure_number why) FAILED 0 0 0 };
-
-    fn from(why: Failure) -> CAnswer {
-        CAnswer {
-            number: why.number(),
-            what: CAnswer::FAILED,
-            ..CAnswer::NONE
-        }
-    }
-}
-
 // A port's answer.
 impl From<Answer> for CAnswer {
     ghost from_gives = { λ a c. c ≡ c_answer_of (says a) };
@@ -69,12 +68,7 @@ impl From<Answer> for CAnswer {
     fn from(a: Answer) -> CAnswer {
         match a {
             Answer::Refused(why) => why.into(),
-            Answer::Failed(why, frames) => CAnswer {
-                number: why.number(),
-                what: CAnswer::FAILED,
-                frames,
-                ..CAnswer::NONE
-            },
+            Answer::Failed(why, frames) => CAnswer::failed(why, frames),
             Answer::Wait => CAnswer::word(CAnswer::WAIT),
             Answer::Frame(len) => CAnswer {
                 what: CAnswer::FRAME,

@@ -172,6 +172,6 @@ pub extern "C" fn ssp_xfer_rdy_read(s: &mut XferRdy, iu: &[u8]) -> CAnswer
                 ..CAnswer::NONE
             }
         }
-        Err(why) => why.into(),
+        Err(why) => CAnswer::failed(why, 0),
     }
 }

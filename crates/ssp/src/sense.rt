@@ -22,7 +22,7 @@ pub extern "C" fn ssp_response_iu_read(iu: &[u8]) -> CAnswer
             },
             o,
         ),
-        Err(why) => why.into(),
+        Err(why) => CAnswer::failed(why, 0),
     }
 }
 
