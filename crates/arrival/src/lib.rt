@@ -26,7 +26,7 @@ pub enum Class {
     Response,
 }
 
-// A frame that has passed 5 to 8: the IU is len bytes from start.
+// A frame that has passed 5 to 8: the IU is len bytes from start, as in `frame::Parsed`.
 #[derive(Clone, Copy)]
 pub struct Arrived {
     pub class: Class,

@@ -7,6 +7,9 @@ ghost use Rattle.frame.specs.Response.{needing, response_fits, sense_fits, by_ki
 use crate::{byte, lent};
 use status::{Failure, Opened};
 
+// The tests below ask for 24 bytes, and `read_response` alone calls them. A struct for an IU of 24 bytes is no plainer: it would hold the
+// slice, and its ghost field the same words once.
+
 // Kind 1: response data of 4 bytes.
 #[tactic(auto, unfolding(crate::specs::Response::response_fits))]
 fn response_fits(iu: &[u8]) -> bool

@@ -78,7 +78,7 @@ fn arrived(r: Receiver, bytes: &[u8], m: usize) -> Result<Arrived, Refusal>
 }
 
 // 1, 2, 5, 6, 7, 8; DATA as the receiving port: discarded (filled), 20, 21, 22, discarded, stored or received; XFER_RDY 23, 24, 27; RESPONSE 32, 34,
-// else where its IU stands, kind, status and bytes of sense data.
+// else where its IU stands, kind, status and bytes of sense data. A `match`, since `Stepped::unless` says nothing of a lent buffer.
 pub fn read_frame_received(r: Receiver, bytes: &[u8], buffer: &mut [u8]) -> Stepped<Receiver>
     ensures { (stepped result ≡ read_arrival_of r bytes.now (length buffer.old)) × (buffer.new ≡ storing (read_arrival_of r bytes.now (length buffer.old)).says (header_in bytes.now).offset (iu_of bytes.now) buffer.old) }
 {
@@ -88,7 +88,7 @@ pub fn read_frame_received(r: Receiver, bytes: &[u8], buffer: &mut [u8]) -> Step
     }
 }
 
-// 1, then 2.
+// 1, then 2. Each record has tests of its own, so each port has this.
 #[tactic(auto, unfolding(crate::specs::Read::read_holds_of))]
 fn admitted(r: Receiver) -> Result<(), Refusal>
     ensures { result ≡ entry_of (read_holds_of r) r.ended }

@@ -28,7 +28,7 @@ pub(crate) fn writer_holds(w: Writer) -> bool
         & (n.limit <= t.limit)
 }
 
-// 1, then 2.
+// 1, then 2. Each record has tests of its own, so each port has this.
 pub(crate) fn admitted(w: Writer) -> Result<(), Refusal>
     ensures { result ≡ entry_of (holds_of w) w.sender.ended }
 {

@@ -24,7 +24,7 @@ pub enum Fate {
 pub enum Receipt {
     Stored,
     Discarded,
-    // nothing arrived
+    // nothing arrived: `none`, a word of the paper, and no Option
     Nothing,
     // the number that it gave
     Number(u32),

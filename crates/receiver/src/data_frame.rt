@@ -18,6 +18,7 @@ pub fn data_received(
     ensures { (stepped result ≡ arrival_of r offset cdp (length iu.now) (length buffer.old)) × (buffer.new ≡ storing (arrival_of r offset cdp (length iu.now) (length buffer.old)).says offset iu.now buffer.old) }
 {
     let ok = receiver_steps::lent(r, buffer.len());
+    // `Stepped::unless` says nothing of a lent buffer, so the match stands here.
     match status::admit(ok, r.ended) {
         Err(why) => Stepped::refused(r, why),
         Ok(()) => receiver_steps::data_step(r, offset, cdp, iu, buffer),

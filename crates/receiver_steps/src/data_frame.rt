@@ -75,7 +75,8 @@ fn stored(mut r: Receiver, offset: u32, n: u32) -> Stepped<Receiver>
     }
 }
 
-// The data goes to its place: a middle part of the buffer is lent on to the copy.
+// The data goes to its place: a middle part of the buffer is lent on to the copy. Crate ssp has the same again: a function that asks for
+// room cannot be public (CONTRIBUTING).
 fn store(offset: usize, iu: &[u8], buffer: &mut [u8])
     requires { offset + length iu.now ≤ length buffer.old }
     ensures { buffer.new ≡ placed buffer.old offset iu.now }

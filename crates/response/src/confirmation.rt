@@ -11,7 +11,7 @@ use crate::record;
 use crate::types::Responder;
 use status::{Answer, Failure, Refusal, Stepped};
 
-// 1, then 2.
+// 1, then 2. Each record has tests of its own, so each port has this.
 fn admitted(x: Responder) -> Result<(), Refusal>
     ensures { result ≡ entry_of (holds_of x) x.ended }
 {

@@ -9,7 +9,7 @@ ghost use Rattle.sender.specs.Confirmation.{confirms_of, ack_of, nak_of, timeout
 use sender_steps::Sender;
 use status::{Answer, Failure, Refusal, Stepped};
 
-// 1, then 2.
+// 1, then 2. Each record has tests of its own, so each port has this.
 fn admitted(s: Sender) -> Result<(), Refusal>
     ensures { result ≡ entry_of (holds_of s) s.ended }
 {

@@ -4,7 +4,7 @@ ghost use Rattle.status.specs.Answer.{says, number, stores, refuses};
 
 use crate::words::{Failure, Refusal};
 
-// A part of the bytes that were lent: len bytes from start.
+// A part of the bytes that were lent: len bytes from start. Numbers and no slice, since C is told them.
 #[derive(Clone, Copy)]
 pub struct Part {
     pub start: usize,
@@ -14,13 +14,14 @@ pub struct Part {
 // What a RESPONSE's IU says (request K9).
 #[derive(Clone, Copy)]
 pub struct Opened {
-    // DATAPRES: 0 no data, 1 response data, 2 sense data
+    // DATAPRES: 0 no data, 1 response data, 2 sense data. A number, since C hands it back and may hand back any (frame `sense_of`).
     pub kind: u8,
     pub status: u8,
     // bytes of sense data, from byte 24 of the IU; 0 of kinds 0 and 1
     pub sense: usize,
 }
 
+// A refusal and a failure are answers here and no errors of a Result: the record comes back with every answer (`Stepped`, specs/Answer `says`).
 #[derive(Clone, Copy)]
 pub enum Answer {
     // 1 to 8: nothing changed

@@ -85,6 +85,7 @@ fn admitted(x: Target, n: usize) -> Result<(), Refusal>
 }
 
 // 1, 2, 5, 6, 7, 8 (tag, then TPTT); discarded (no ACK yet); then as the receiving port: discarded (filled), 20, 21, 22, discarded, stored or received.
+// A `match`, since `Stepped::unless` says nothing of a lent buffer.
 #[tactic(auto, unfolding(crate::specs::Arrival::write_arrival_of))]
 pub fn write_frame_received(x: Target, bytes: &[u8], buffer: &mut [u8]) -> Stepped<Target>
     ensures { (stepped result ≡ write_arrival_of x bytes.now (length buffer.old)) × (buffer.new ≡ storing (write_arrival_of x bytes.now (length buffer.old)).says (header_in bytes.now).offset (iu_of bytes.now) buffer.old) }

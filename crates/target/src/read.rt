@@ -10,7 +10,7 @@ use arrival::Role;
 use sender::Sender;
 use status::{Refusal, Stepped};
 
-// 1, then 2.
+// 1, then 2. Each record has tests of its own, so each port has this.
 #[tactic(auto, unfolding(crate::specs::Read::read_holds_of))]
 fn admitted(s: Sender) -> Result<(), Refusal>
     ensures { result ≡ entry_of (read_holds_of s) s.ended }

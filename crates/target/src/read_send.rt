@@ -21,7 +21,7 @@ fn is_read(s: Sender) -> Result<(), Refusal>
     }
 }
 
-// 1, 2; wait; 3, else a frame of that length.
+// 1, 2; wait; 3, else a frame of that length. A `match`, since `Stepped::unless` says nothing of a lent buffer.
 pub fn read_next_frame(s: Sender, buffer: &[u8], out: &mut [u8]) -> Stepped<Sender>
     ensures { (stepped result ≡ read_next_of s buffer.now out.old) × (out.new ≡ handing (read_next_of s buffer.now out.old).says (frame_of s buffer.now) out.old) × Counts s (frame_of s buffer.now) (stepped result) }
 {

@@ -24,7 +24,7 @@ pub(crate) fn holds(x: Target) -> bool
         & (x.elapsed <= x.receiver.transfer.irt)
 }
 
-// 1, then 2.
+// 1, then 2. Each record has tests of its own, so each port has this.
 pub(crate) fn admitted(x: Target) -> Result<(), Refusal>
     ensures { result ≡ entry_of (holds_of x) x.receiver.ended }
 {
