@@ -11,7 +11,6 @@ mod types;
 mod words;
 
 pub use decimal::read_number;
-pub use print::Printable;
 pub use room::{ROOM, put, put_ended};
 pub use rows::{read_refused, read_row, read_run, read_verdict};
 pub use run_file::{next_fate, read_run_file};

@@ -11,7 +11,8 @@ use crate::decimal;
 use crate::types::{Direction, Fate, Misfit, Outcome, Receipt, Row, Run, Verdict};
 use crate::words::Word;
 
-// What has a text: a number, a word, a line without its line feed.
+// What has a text: a number, a word, a line without its line feed. The crate keeps the trait to itself, since `print` asks for
+// room: `put` and `put_ended` test it.
 pub trait Printable: Copy {
     ghost text: { Self → List ℕ };
 
