@@ -4,7 +4,7 @@ ghost use Rattle.status.specs.Stepped.{stepped};
 ghost use Rattle.status.specs.Answer.{says};
 ghost use Rattle.status.specs.Result.{Result, or_refusal};
 ghost use Rattle.status.specs.Number.{failure_number};
-ghost use Rattle.transfer.specs.Limits.{limits_hold};
+ghost use Rattle.initiator.specs.WriteRecord.{holds_of};
 ghost use Rattle.initiator.specs.WriteCount.{Counts};
 ghost use Rattle.initiator.specs.WriteTake.{ended_of, failed_of, or_failed, previous, all_handed, fits_of, repeat_of, disposition_of, limit_of, asked_of, next_taken, burst_taken, xfer_rdy_taken, opened_by, response_of, taken_of, arrived_frame, write_arrival_of};
 
@@ -158,29 +158,6 @@ fn taken(w: Writer, b: Burst, answer: Answer) -> Stepped<Writer>
     Stepped { left, answer }
 }
 
-// 23, 24, 27, 26, 25, else taken.
-#[tactic(auto, unfolding(crate::specs::WriteTake::xfer_rdy_taken))]
-fn burst_of(w: Writer, h: Header, iu: &[u8]) -> Result<Stepped<Writer>, Failure>
-    requires { limits_hold w.sender.transfer ≡ true }
-    ensures { or_failed w result ≡ xfer_rdy_taken w h iu.now }
-{
-    let x = frame::read_xfer_rdy(iu)?;
-    let disposition = judge(w, x, h.flags.retransmit)?;
-    let b = asked(w, h, x);
-    Ok(match disposition {
-        XferRdyDisposition::Next => taken(w, b, next_taken(w)),
-        XferRdyDisposition::Repeat => taken(w, b, Answer::Repeated),
-    })
-}
-
-// The same, where a failure ends the record.
-fn xfer_rdy(w: Writer, h: Header, iu: &[u8]) -> Stepped<Writer>
-    requires { limits_hold w.sender.transfer ≡ true }
-    ensures { stepped result ≡ xfer_rdy_taken w h iu.now }
-{
-    burst_of(w, h, iu).unwrap_or_else(|why| failed(w, why))
-}
-
 // The command has ended, with what the RESPONSE says.
 fn opened(w: Writer, iu: Part, o: Opened) -> Stepped<Writer>
     ensures { stepped result ≡ opened_by (Result.value o) w iu.start iu.len }
@@ -206,20 +183,53 @@ fn response(w: Writer, at: Part, iu: &[u8]) -> Stepped<Writer>
     }
 }
 
-// A frame that has passed 5 to 8.
-fn take(w: Writer, a: Arrived, bytes: &[u8]) -> Stepped<Writer>
-    requires { (a.start + a.len ≤ length bytes.now) × (limits_hold w.sender.transfer ≡ true) }
-    ensures { stepped result ≡ taken_of a.class w a bytes.now }
-{
-    let iu = &bytes[a.start..a.start + a.len];
-    let at = Part {
-        start: a.start,
-        len: a.len,
-    };
-    match a.class {
-        Class::XferRdy => xfer_rdy(w, a.header, iu),
-        Class::Response => response(w, at, iu),
-        Class::Data => Stepped::refused(w, Refusal::UnexpectedFrameType),
+// A record that number 1 does not refuse.
+#[derive(Clone, Copy)]
+struct Held {
+    writer: Writer,
+    ghost holds: { holds_of writer ≡ true },
+}
+
+impl Held {
+    // 23, 24, 27, 26, 25, else taken.
+    #[tactic(auto, unfolding(crate::specs::WriteTake::xfer_rdy_taken))]
+    fn burst_of(self, h: Header, iu: &[u8]) -> Result<Stepped<Writer>, Failure>
+        ensures { or_failed self.writer result ≡ xfer_rdy_taken self.writer h iu.now }
+    {
+        let w = self.writer;
+        let x = frame::read_xfer_rdy(iu)?;
+        let disposition = judge(w, x, h.flags.retransmit)?;
+        let b = asked(w, h, x);
+        Ok(match disposition {
+            XferRdyDisposition::Next => taken(w, b, next_taken(w)),
+            XferRdyDisposition::Repeat => taken(w, b, Answer::Repeated),
+        })
+    }
+
+    // The same, where a failure ends the record.
+    fn xfer_rdy(self, h: Header, iu: &[u8]) -> Stepped<Writer>
+        ensures { stepped result ≡ xfer_rdy_taken self.writer h iu.now }
+    {
+        self.burst_of(h, iu)
+            .unwrap_or_else(|why| failed(self.writer, why))
+    }
+
+    // A frame that has passed 5 to 8.
+    fn take(self, a: Arrived, bytes: &[u8]) -> Stepped<Writer>
+        requires { a.start + a.len ≤ length bytes.now }
+        ensures { stepped result ≡ taken_of a.class self.writer a bytes.now }
+    {
+        let w = self.writer;
+        let iu = &bytes[a.start..a.start + a.len];
+        let at = Part {
+            start: a.start,
+            len: a.len,
+        };
+        match a.class {
+            Class::XferRdy => self.xfer_rdy(a.header, iu),
+            Class::Response => response(w, at, iu),
+            Class::Data => Stepped::refused(w, Refusal::UnexpectedFrameType),
+        }
     }
 }
 
@@ -239,6 +249,6 @@ pub fn write_frame_received(w: Writer, bytes: &[u8]) -> Stepped<Writer>
 {
     match arrived(w, bytes) {
         Err(why) => Stepped::refused(w, why),
-        Ok(a) => take(w, a, bytes),
+        Ok(a) => Held { writer: w }.take(a, bytes),
     }
 }

@@ -21,50 +21,71 @@ fn is_due(x: Target) -> bool
             & (x.receiver.end < x.receiver.transfer.count))
 }
 
-// The lesser of the burst size and what remains, from the end of the previous burst.
-fn burst_end(x: Target) -> u32
-    requires { holds_of x ≡ true }
-    ensures { result ≡ burst_end x }
-{
-    let left = x.receiver.transfer.count - x.receiver.end;
-    x.receiver.end + x.receiver.transfer.burst.min(left)
+// A record that number 1 does not refuse.
+#[derive(Clone, Copy)]
+struct Held {
+    target: Target,
+    ghost holds: { holds_of target ≡ true },
 }
 
-// The next burst, from the end of the previous one.
-fn next_burst(mut x: Target) -> Target
-    requires { holds_of x ≡ true }
-    ensures { result ≡ next_burst x }
-{
-    x.receiver = receiver_steps::begin(x.receiver.transfer, x.receiver.end, burst_end(x));
-    x.retries = 0;
-    x
-}
-
-// The burst that the XFER_RDY is for: the same one again, or the next.
-#[tactic(auto, unfolding(crate::specs::Transmit::burst_of, status::specs::Pick::pick))]
-fn burst(x: Target) -> Target
-    requires { holds_of x ≡ true }
-    ensures { result ≡ burst_of x }
-{
-    if x.state == Target::AGAIN {
-        x
-    } else {
-        next_burst(x)
+impl Held {
+    // The lesser of the burst size and what remains, from the end of the previous burst.
+    fn burst_end(self) -> u32
+        ensures { result ≡ burst_end self.target }
+    {
+        let r = self.target.receiver;
+        let left = r.transfer.count - r.end;
+        r.end + r.transfer.burst.min(left)
     }
-}
 
-// The record once the XFER_RDY is handed out, under a new tag.
-#[tactic(auto, unfolding(crate::specs::Transmit::issued_of))]
-fn issue(x: Target) -> Target
-    requires { holds_of x ≡ true }
-    ensures { result ≡ issued_of x }
-{
-    let tptt = tag::new_tag(x.stored, x.under, x.since);
-    let mut y = burst(x);
-    y.state = Target::UNANSWERED;
-    y.tptt = tptt;
-    y.since = x.since + 1;
-    y
+    // The next burst, from the end of the previous one.
+    fn next_burst(self) -> Target
+        ensures { result ≡ next_burst self.target }
+    {
+        let mut x = self.target;
+        x.receiver = receiver_steps::begin(x.receiver.transfer, x.receiver.end, self.burst_end());
+        x.retries = 0;
+        x
+    }
+
+    // The burst that the XFER_RDY is for: the same one again, or the next.
+    #[tactic(auto, unfolding(crate::specs::Transmit::burst_of, status::specs::Pick::pick))]
+    fn burst(self) -> Target
+        ensures { result ≡ burst_of self.target }
+    {
+        if self.target.state == Target::AGAIN {
+            self.target
+        } else {
+            self.next_burst()
+        }
+    }
+
+    // The record once the XFER_RDY is handed out, under a new tag.
+    #[tactic(auto, unfolding(crate::specs::Transmit::issued_of))]
+    fn issue(self) -> Target
+        ensures { result ≡ issued_of self.target }
+    {
+        let x = self.target;
+        let mut y = self.burst();
+        y.state = Target::UNANSWERED;
+        y.tptt = tag::new_tag(x.stored, x.under, x.since);
+        y.since = x.since + 1;
+        y
+    }
+
+    // An XFER_RDY is due: it goes out, or the output buffer is too short.
+    fn transmit(self, out: &mut [u8]) -> Stepped<Target>
+        ensures { (stepped result ≡ hands_of self.target out.old) × (out.new ≡ handing (hands_of self.target out.old).says (frame_of self.target) out.old) }
+    {
+        let y = self.issue();
+        match frame::write(header(y, self.target.state == Target::AGAIN), &iu(y), out) {
+            Ok(length) => Stepped {
+                left: y,
+                answer: Answer::Frame(length),
+            },
+            Err(why) => Stepped::refused(self.target, why),
+        }
+    }
 }
 
 // RETRANSMIT is one where it is sent again; `y` is the record that hands it out.
@@ -100,21 +121,6 @@ fn iu(y: Target) -> [u8; 12]
     })
 }
 
-// An XFER_RDY is due: it goes out, or the output buffer is too short.
-fn transmit(x: Target, out: &mut [u8]) -> Stepped<Target>
-    requires { holds_of x ≡ true }
-    ensures { (stepped result ≡ hands_of x out.old) × (out.new ≡ handing (hands_of x out.old).says (frame_of x) out.old) }
-{
-    let y = issue(x);
-    match frame::write(header(y, x.state == Target::AGAIN), &iu(y), out) {
-        Ok(length) => Stepped {
-            left: y,
-            answer: Answer::Frame(length),
-        },
-        Err(why) => Stepped::refused(x, why),
-    }
-}
-
 // 1, 2; wait; 3, else an XFER_RDY of that length.
 #[tactic(auto, unfolding(crate::specs::Transmit::next_of, status::specs::Pick::pick), using(status::proofs::OpenedCall::opened))]
 pub fn write_next_frame(x: Target, out: &mut [u8]) -> Stepped<Target>
@@ -124,7 +130,7 @@ pub fn write_next_frame(x: Target, out: &mut [u8]) -> Stepped<Target>
         Err(why) => Stepped::refused(x, why),
         Ok(()) => {
             if is_due(x) {
-                transmit(x, out)
+                Held { target: x }.transmit(out)
             } else {
                 Stepped {
                     left: x,

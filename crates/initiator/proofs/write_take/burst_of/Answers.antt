@@ -1,6 +1,0 @@
-use mathlib.Core.Path.{sym, ◌∙◌}
-use Rattle.initiator.proofs.WriteFits.{end_fits}
-use Rattle.initiator.proofs.write_take.burst_of.Goals as goal
-
-pub asked-b-requires : goal.asked-b-requires
-asked-b-requires c = end_fits _ _ _ c.requires (c.in_ok-disposition.disposition, sym c.judge.ensures ∙ c.in_ok-disposition.was)
