@@ -121,7 +121,7 @@ fn iu(y: Target) -> [u8; 12]
     })
 }
 
-// 1, 2; wait; 3, else an XFER_RDY of that length.
+// 1, 2; wait; 3, else an XFER_RDY of that length. A `match`, since `Stepped::unless` says nothing of a lent buffer.
 #[tactic(auto, unfolding(crate::specs::Transmit::next_of, status::specs::Pick::pick), using(status::proofs::OpenedCall::opened))]
 pub fn write_next_frame(x: Target, out: &mut [u8]) -> Stepped<Target>
     ensures { (stepped result ≡ next_of x out.old) × (out.new ≡ handing (next_of x out.old).says (frame_of x) out.old) }
