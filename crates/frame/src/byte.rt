@@ -1,5 +1,5 @@
 // The type byte, byte 10, and numbers of several bytes.
-ghost use Rattle.std.specs.Prelude.{◌≡◌, ◌+◌, ◌≤◌, length};
+ghost use Rattle.std.specs.Prelude.{◌≡◌, ◌+◌, ◌≤◌, ◌%◌, length};
 ghost use Rattle.frame.specs.Format.{is_type, flag_byte, flags_of, field};
 
 use crate::types::{COMMAND, DATA, Flags, RESPONSE, TASK, XFER_RDY};
@@ -11,24 +11,36 @@ pub(crate) fn known(frametype: u8) -> bool
     matches!(frametype, DATA | XFER_RDY | COMMAND | RESPONSE | TASK)
 }
 
-// Byte 10, built.
-#[tactic(auto, unfolding(crate::specs::Format::flag_byte))]
+pub(crate) fn low_bit(x: u8) -> u8
+    ensures { result ≡ x % 2 }
+{
+    x & 1
+}
+
+pub(crate) fn low_two_bits(x: u8) -> u8
+    ensures { result ≡ x % 4 }
+{
+    x & 3
+}
+
+// Byte 10, built, by shifts and masks (docs/DECISIONS.md, Form by location).
 pub(crate) fn flag_byte(f: Flags) -> u8
     ensures { result ≡ flag_byte f }
 {
-    f.tlr % 4 * 8 + (f.retry as u8) * 4 + (f.retransmit as u8) * 2 + (f.cdp as u8)
+    let tlr = low_two_bits(f.tlr);
+    (tlr << 3) | ((f.retry as u8) << 2) | ((f.retransmit as u8) << 1) | (f.cdp as u8)
 }
 
-// Byte 10, taken apart.
+// Byte 10, taken apart, by shifts and masks too.
 #[tactic(auto, unfolding(crate::specs::Format::flags_of))]
 pub(crate) fn flags_of(b: u8) -> Flags
     ensures { result ≡ flags_of b }
 {
     Flags {
-        tlr: b / 8 % 4,
-        retry: b / 4 % 2 == 1,
-        retransmit: b / 2 % 2 == 1,
-        cdp: b % 2 == 1,
+        tlr: low_two_bits(b >> 3),
+        retry: low_bit(b >> 2) == 1,
+        retransmit: low_bit(b >> 1) == 1,
+        cdp: low_bit(b) == 1,
     }
 }
 
