@@ -26,7 +26,9 @@ pub enum Class {
     Response,
 }
 
-// A frame that has passed 5 to 8: the IU is len bytes from start, as in `frame::Parsed`.
+// A frame that has passed 5 to 8: the IU is len bytes from start, as in `frame::Parsed`. Three functions ask that it
+// lies within the bytes, and cut it out: with the slice in this struct, every clause about it would speak of a lent
+// part.
 #[derive(Clone, Copy)]
 pub struct Arrived {
     pub class: Class,

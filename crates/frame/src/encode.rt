@@ -1,5 +1,5 @@
 // The frame writer: a data step and a header step.
-ghost use Rattle.std.specs.Prelude.{◌≡◌, ℕ, ◌+◌, ◌^◌, ◌≤◌, ◌<◌, List, length};
+ghost use Rattle.std.specs.Prelude.{◌≡◌, ℕ, ◌+◌, ◌≤◌, List, length};
 ghost use Rattle.status.specs.Result.{or_refusal};
 ghost use Rattle.frame.specs.Format.{fill_of, header_bytes, data_bytes, encode};
 ghost use Rattle.frame.specs.Write.{writable, write_answer, put, placed};
@@ -46,8 +46,8 @@ fn place_data(iu: &[u8], out: &mut [u8])
     place(&[0; 3][..fill], out, 24 + n);
 }
 
-// Puts a header down, where it fits. The type byte stands where an address has no byte. Each word of four bytes is one store: as an array of bytes the header took 15
-// instructions more, which is over the bar of docs/SPEED.md.
+// Puts a header down, where it fits. The type byte stands where an address has no byte. Each word of four bytes is one
+// store: as an array of bytes the header took 15 instructions more, which is over the bar of docs/SPEED.md.
 pub(crate) fn place_header(h: Header, fill: u8, out: &mut [u8])
     requires { 24 ≤ length out.old }
     ensures { out.new ≡ placed out.old 0 (header_bytes h fill) }
@@ -96,7 +96,8 @@ pub fn write_data(h: Header, iu: &[u8], out: &mut [u8]) -> Result<usize, Refusal
     Ok(len)
 }
 
-// The header step. 1, 3 for the whole frame, else the frame's length; the header stands at the front of the output buffer.
+// The header step. 1, 3 for the whole frame, else the frame's length; the header stands at the front of the output
+// buffer.
 pub fn write_header(h: Header, iu: &[u8], out: &mut [u8]) -> Result<usize, Refusal>
     ensures { (or_refusal result ≡ write_answer h iu.now out.old) × (out.new ≡ put_header h iu.now out.old) }
 {

@@ -7,8 +7,8 @@ ghost use Rattle.frame.specs.Response.{needing, response_fits, sense_fits, by_ki
 use crate::{byte, lent};
 use status::{Failure, Opened};
 
-// The tests below ask for 24 bytes, and `read_response` alone calls them. A struct for an IU of 24 bytes is no plainer: it would hold the
-// slice, and its ghost field the same words once.
+// Four functions ask for the header's 24 bytes, and `read_response` tests them once. A struct for such an IU is no
+// plainer: each function reads the slice, so each would take it out of the struct first.
 
 // Kind 1: response data of 4 bytes.
 #[tactic(auto, unfolding(crate::specs::Response::response_fits))]

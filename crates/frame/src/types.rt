@@ -39,7 +39,8 @@ pub struct Header {
     pub offset: u32,
 }
 
-// A frame read: the IU is len bytes from start. Numbers and no slice: the definition `decode` gives them, and C is told them.
+// A frame read: the IU is len bytes from start. Numbers and no slice: the definition `decode` gives them, and C is told
+// them.
 #[derive(Clone, Copy)]
 pub struct Parsed {
     pub header: Header,

@@ -1,4 +1,5 @@
-// Blocks of bytes, little-endian words, and the copy by blocks. LLVM makes one move of each block or word that is read or put down in this form.
+// Blocks of bytes, little-endian words, and the copy by blocks. LLVM makes one move of each block or word that is read
+// or put down in this form.
 ghost use Rattle.std.specs.Prelude.{◌≡◌, ◌+◌, ◌-◌, ◌≤◌, ◌<◌, length, take, drop};
 ghost use Rattle.frame.specs.Write.{over, placed};
 ghost use Rattle.frame.specs.Words.{little, word};

@@ -1,4 +1,5 @@
-// The initiator port: what arrives at the host, and what it sends in a write command. Every function here is an entry point; `sense_data` takes no record.
+// The initiator port: what arrives at the host, and what it sends in a write command. Every function here is an entry
+// point; `sense_data` takes no record.
 #![tactic(auto)]
 
 mod read;

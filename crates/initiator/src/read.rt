@@ -4,7 +4,7 @@ ghost use Rattle.status.specs.Stepped.{stepped};
 ghost use Rattle.status.specs.Entry.{entry_of};
 ghost use Rattle.status.specs.Result.{Result, or_refusal};
 ghost use Rattle.frame.specs.Read.{header_in, iu_of};
-ghost use Rattle.receiver_steps.specs.Record.{failed_of, lent_of};
+ghost use Rattle.receiver_steps.specs.Record.{lent_of};
 ghost use Rattle.receiver_steps.specs.DataFrame.{storing};
 ghost use Rattle.initiator.specs.Read.{read_holds_of, not_expected_of, opened_by, response_of, taken_of, arrived_frame, read_arrival_of, read_loss_of};
 
@@ -77,8 +77,9 @@ fn arrived(r: Receiver, bytes: &[u8], m: usize) -> Result<Arrived, Refusal>
     arrival::accept(Role::ReadInitiator, r.transfer, bytes)
 }
 
-// 1, 2, 5, 6, 7, 8; DATA as the receiving port: discarded (filled), 20, 21, 22, discarded, stored or received; XFER_RDY 23, 24, 27; RESPONSE 32, 34,
-// else where its IU stands, kind, status and bytes of sense data. A `match`, since `Stepped::unless` says nothing of a lent buffer.
+// 1, 2, 5, 6, 7, 8; DATA as the receiving port: discarded (filled), 20, 21, 22, discarded, stored or received; XFER_RDY
+// 23, 24, 27; RESPONSE 32, 34, else where its IU stands, kind, status and bytes of sense data. A `match`, since
+// `Stepped::unless` says nothing of a lent buffer.
 pub fn read_frame_received(r: Receiver, bytes: &[u8], buffer: &mut [u8]) -> Stepped<Receiver>
     ensures { (stepped result ≡ read_arrival_of r bytes.now (length buffer.old)) × (buffer.new ≡ storing (read_arrival_of r bytes.now (length buffer.old)).says (header_in bytes.now).offset (iu_of bytes.now) buffer.old) }
 {

@@ -1,6 +1,5 @@
-// The initiator's record in a write command, and what its events leave.
+// The initiator's record in a write command, and which burst an XFER_RDY is for.
 use sender::{Burst, Sender};
-use status::{Answer, Failure, Refusal, Stepped};
 
 // C interface: this is the record of ssp.h, so a flag stands beside the burst that is taken, in place of an Option.
 #[repr(C)]

@@ -1,4 +1,5 @@
 // A write command's frames asked for, and their confirmations, over the sending port.
+// Each event of the paper keeps a public name of its own: what differs is its step or its number.
 ghost use Rattle.std.specs.Prelude.{◌≡◌, []};
 ghost use Rattle.status.specs.Stepped.{stepped};
 ghost use Rattle.frame.specs.Write.{handing};
@@ -65,7 +66,8 @@ fn first(w: Writer, buffer: &[u8], out: &mut [u8]) -> Stepped<Writer>
     keep(w, reach(v, sender_steps::frame_step(v.sender, buffer, out)))
 }
 
-// 1, 2; wait (also while a taken burst waits for confirmations); 3, else a frame of that length. A `match`, since `Stepped::unless` says nothing of a lent buffer.
+// 1, 2; wait (also while a taken burst waits for confirmations); 3, else a frame of that length. A `match`, since
+// `Stepped::unless` says nothing of a lent buffer.
 pub fn write_next_frame(w: Writer, buffer: &[u8], out: &mut [u8]) -> Stepped<Writer>
     ensures { (stepped result ≡ next_of w buffer.now out.old) × (out.new ≡ handing (next_of w buffer.now out.old).says (frame_of (begun_of w).sender buffer.now) out.old) × Counts w (frame_of (begun_of w).sender buffer.now) (stepped result) }
 {

@@ -1,5 +1,5 @@
 // Arrivals of any bytes at the initiator of a write command: XFER_RDY and RESPONSE.
-ghost use Rattle.std.specs.Prelude.{◌≡◌, true, [], ◌+◌, ◌^◌, ◌≤◌, ◌<◌, ltb, length, take};
+ghost use Rattle.std.specs.Prelude.{◌≡◌, true, [], ◌+◌, ◌^◌, ◌≤◌, ◌<◌, ltb, length};
 ghost use Rattle.status.specs.Stepped.{stepped};
 ghost use Rattle.status.specs.Answer.{says};
 ghost use Rattle.status.specs.Result.{Result, or_refusal};

@@ -1,4 +1,5 @@
-// The ladder program: standard input to standard output. All that matters is in `ladder_print::print_ladder`; what was read and written no contract can say.
+// The ladder program: standard input to standard output. All that matters is in `ladder_print::print_ladder`; what was
+// read and written no contract can say.
 #![tactic(auto)]
 
 ghost use Rattle.std.specs.Prelude.{◌≡◌, ◌≤◌, length, take};

@@ -20,3 +20,4 @@ pub mod Climbed
 pub mod Filling
 pub mod Lists
 pub mod LadderClaim
+pub mod FrameLength

@@ -1,5 +1,4 @@
 // The lines of a ladder, one below the other.
-ghost use Rattle.std.specs.Prelude.{length};
 ghost use Rattle.ladder_run.specs.Whole.{whole_of};
 ghost use Rattle.ladder_print.specs.Text.{whole_text};
 ghost use Rattle.ladder_print.specs.Room.{Tries};

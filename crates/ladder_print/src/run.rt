@@ -27,7 +27,8 @@ pub(crate) fn start(input: &[u8]) -> Result<Start<'_>, Misfit>
     }
 }
 
-// The ladder in buffers for so many fates and bytes. It stays a function of its own, so that its buffers are in no caller's frame.
+// The ladder in buffers for so many fates and bytes. It stays a function of its own, so that its buffers are in no
+// caller's frame.
 #[inline(never)]
 fn from_start<const FATES: usize, const BYTES: usize>(s: Start, out: &mut [u8]) -> Option<usize>
     requires most { (FATES ≤ FATES-MOST) × (BYTES ≤ COUNT-MOST) }

@@ -5,7 +5,8 @@ ghost use Rattle.ladder_print.specs.Room.{Tries, PrintsIfRoom};
 use crate::run;
 use ladder_text::{Misfit, ROOM};
 
-// The bytes with which an output buffer has room for every ladder: 35 for each of 38,292 lines, and the room that a line's printer asks for.
+// The bytes with which an output buffer has room for every ladder: 35 for each of 38,292 lines, and the room that a
+// line's printer asks for.
 pub const TEXT_MOST: usize = 1_340_284;
 
 // The line that does not fit.
@@ -41,7 +42,8 @@ fn whole(input: &[u8], out: &mut [u8]) -> Option<usize>
     }
 }
 
-// The same in a buffer that may be too short for this input's text: then `None`, and it is zeroed, so that no part of a ladder stays.
+// The same in a buffer that may be too short for this input's text: then `None`, and it is zeroed, so that no part of a
+// ladder stays.
 pub fn print_if_room(input: &[u8], out: &mut [u8]) -> Option<usize>
     ensures { PrintsIfRoom (text_of input.now) out.old result out.new }
 {

@@ -37,6 +37,7 @@ pub(crate) fn ask(s: Sending, source: &[u8], out: &mut [u8]) -> Stepped<Sending>
     }
 }
 
+// A signal reaches the sending port. Six functions of two crates, each named once: closures would name each once too.
 pub(crate) fn tell(s: Sending, g: Signal) -> Stepped<Sending>
     ensures { stepped result ≡ signalled_of (told g) s }
 {

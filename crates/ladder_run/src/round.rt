@@ -33,7 +33,8 @@ fn note(x: Confirming, g: Signal) -> Confirming
     }
 }
 
-// The confirmation of a frame of that fate reaches the sending port, or is missing.
+// The confirmation of a frame of that fate reaches the sending port, or is missing. One decision: closures would say no
+// more.
 fn confirm(x: Confirming, fate: Fate) -> Confirming
     ensures { result ≡ confirmed_by fate x }
 {

@@ -1,8 +1,8 @@
 // One frame handed out, and its fate.
-ghost use Rattle.std.specs.Prelude.{◌≡◌, ◌+◌, ◌≤◌, ◌<◌, length};
+ghost use Rattle.std.specs.Prelude.{◌≡◌, ◌<◌};
 ghost use Rattle.status.specs.Answer.{says};
 ghost use Rattle.frame.specs.Read.{decode};
-ghost use Rattle.ladder_run.specs.Row.{handed, receipt_of, shown_of, row_of, met_of, met_by, ROWS-MOST, open_of, sent_of, nothing_of, next_line_by, out_of};
+ghost use Rattle.ladder_run.specs.Row.{handed, receipt_of, shown_of, met_of, met_by, ROWS-MOST, open_of, sent_of, nothing_of, next_line_by, out_of};
 
 use crate::types::{Ladder, Met, Next, Receiving, Sending, Shown};
 use crate::{ends, fates};

@@ -1,7 +1,7 @@
 // Both ends set up.
-ghost use Rattle.std.specs.Prelude.{◌≡◌, true, false};
+ghost use Rattle.std.specs.Prelude.{◌≡◌};
 ghost use Rattle.status.specs.Result.{or_refusal};
-ghost use Rattle.ladder_run.specs.Setup.{transfer_of, fresh, exchanged, ready_set_up, set_up_of, TARGET, INITIATOR};
+ghost use Rattle.ladder_run.specs.Setup.{transfer_of, fresh, exchanged, ready_set_up, set_up_of};
 ghost use Rattle.ladder_text.specs.declared.types.Direction.TheVariants as direction;
 
 use crate::row;

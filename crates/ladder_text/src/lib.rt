@@ -1,4 +1,5 @@
-// The text of run files and ladders ("The ladder program"): numbers, words, lines and fields, each with its reader and its printer.
+// The text of run files and ladders ("The ladder program"): numbers, words, lines and fields, each with its reader and
+// its printer.
 #![tactic(auto)]
 
 mod decimal;

@@ -1,6 +1,6 @@
 // What is printed. Each printer prints at `at` and answers the place behind it.
 // A struct of buffer and place is no plainer: each printer would also promise that it holds the same borrow.
-ghost use Rattle.std.specs.Prelude.{ℕ, List, [], ◌∷◌, ◌+◌, ◌≤◌, ◌<◌, length};
+ghost use Rattle.std.specs.Prelude.{ℕ, List, ◌+◌, ◌≤◌, ◌<◌, length};
 ghost use Rattle.std.proofs.Common.{lit<};
 ghost use Rattle.ladder_text.specs.Decimal.{decimal};
 ghost use Rattle.ladder_text.specs.Words.{direction_word, fate_word, receipt_word, outcome_word};
@@ -11,8 +11,9 @@ use crate::decimal;
 use crate::types::{Direction, Fate, Misfit, Outcome, Receipt, Row, Run, Verdict};
 use crate::words::Word;
 
-// What has a text: a number, a word, a line without its line feed. The crate keeps the trait to itself, since `print` asks for
-// room: `put` and `put_ended` test it.
+// What has a text: a number, a word, a line without its line feed. The crate keeps the trait to itself, since `print`
+// asks for room: `put` and `put_ended` test it. Display is no plainer: its contract would have to fix the place and the
+// rest of the buffer too.
 pub trait Printable: Copy {
     ghost text: { Self → List ℕ };
 

@@ -14,7 +14,8 @@ fn first_misfit(s: &[u8], from: usize) -> Option<u32>
 {
     let mut at = from;
     let mut n: u32 = 2;
-    // std's `split` is no plainer: behind a last line feed it gives one more, empty line.
+    // std's splits are no plainer: `split` gives an empty line behind a last line feed, `split_inclusive` leaves each
+    // line feed to be cut off.
     while at < s.len() {
         let l = text::line(s, at);
         if words::read_fate(l).is_none() {

@@ -1,4 +1,4 @@
-// Words, read and printed.
+// Words, and the values they stand for.
 ghost use Rattle.std.specs.Prelude.{◌≡◌, ℕ, List};
 ghost use Rattle.ladder_text.specs.Words.{named, all_directions, all_fates, all_outcomes, direction_word, direction_of, fate_number, fate_at, fate_word, fate_of, receipt_of, outcome_word, outcome_of};
 
@@ -103,7 +103,7 @@ impl From<u8> for Fate {
     }
 }
 
-// The direction that s names.
+// The direction that s names. This reader and the next ones are public under the names of their definitions.
 #[tactic(auto, unfolding(crate::specs::Words::direction_of))]
 pub fn read_direction(s: &[u8]) -> Option<Direction>
     ensures { result ≡ direction_of s.now }

@@ -1,5 +1,5 @@
 // One DATA frame that has passed 5 to 8, once 1 and 2 are tested.
-ghost use Rattle.std.specs.Prelude.{◌≡◌, ◌+◌, ◌^◌, ◌≤◌, ◌<◌, max, length};
+ghost use Rattle.std.specs.Prelude.{◌≡◌, ◌+◌, ◌^◌, ◌≤◌, ◌<◌, length};
 ghost use Rattle.status.specs.Stepped.{stepped};
 ghost use Rattle.frame.specs.Write.{placed};
 ghost use Rattle.receiver_steps.specs.DataFrame.{misplaced, out_of_step, disposition_of, stored_by, taken_of, data_step_of, storing};
@@ -75,8 +75,8 @@ fn stored(mut r: Receiver, offset: u32, n: u32) -> Stepped<Receiver>
     }
 }
 
-// The data goes to its place: a middle part of the buffer is lent on to the copy. Crate ssp has the same again: a function that asks for
-// room cannot be public (CONTRIBUTING).
+// The data goes to its place: a middle part of the buffer is lent on to the copy. Crate ssp has the same again: a
+// function that asks for room cannot be public (CONTRIBUTING).
 fn store(offset: usize, iu: &[u8], buffer: &mut [u8])
     requires { offset + length iu.now ≤ length buffer.old }
     ensures { buffer.new ≡ placed buffer.old offset iu.now }

@@ -1,11 +1,11 @@
-// The record: the tests of number 1, how a burst begins, refusal and failure.
+// The record: the tests of number 1, how a burst begins, and failure.
 ghost use Rattle.std.specs.Prelude.{◌≡◌};
 ghost use Rattle.status.specs.Stepped.{stepped};
 ghost use Rattle.status.specs.Number.{failure_number};
 ghost use Rattle.receiver_steps.specs.Record.{holds_of, right_length, lent_of, beginning, failed_of};
 
 use crate::types::Receiver;
-use status::{Answer, Failure, Refusal, Stepped};
+use status::{Answer, Failure, Stepped};
 use transfer::Transfer;
 
 // Number 1 does not apply: limits and marks are in order.

@@ -1,5 +1,4 @@
-// The receiving port's record, and what a step leaves.
-use status::{Answer, Failure, Stepped};
+// The receiving port's record, and what is done with a DATA frame.
 use transfer::Transfer;
 
 #[repr(C)]

@@ -1,4 +1,5 @@
 // ACK, NAK, timeout, cut and nexus loss at the RESPONSE.
+// Each event of the paper keeps a public name of its own: what differs is its step or its number.
 ghost use Rattle.std.specs.Prelude.{◌≡◌};
 ghost use Rattle.status.specs.Stepped.{stepped};
 ghost use Rattle.status.specs.Number.{failure_number};

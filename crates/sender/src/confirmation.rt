@@ -1,4 +1,5 @@
 // ACK, NAK, timeout, cut and nexus loss.
+// Each event of the paper keeps a public name of its own: what differs is its step or its number.
 ghost use Rattle.std.specs.Prelude.{◌≡◌, []};
 ghost use Rattle.status.specs.Stepped.{stepped};
 ghost use Rattle.status.specs.Entry.{entry_of};

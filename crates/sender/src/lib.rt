@@ -1,4 +1,5 @@
-// The sending port: it serves a target's read and an initiator's write burst, from base to end. Every function here is an entry point.
+// The sending port: it serves a target's read and an initiator's write burst, from base to end. Every function here is
+// an entry point.
 #![tactic(auto)]
 
 mod confirmation;

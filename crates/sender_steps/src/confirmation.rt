@@ -7,7 +7,7 @@ ghost use Rattle.sender_steps.specs.Confirmation.{lowered_of, failed_of, restart
 use crate::types::Sender;
 use status::{Answer, Failure, Stepped};
 
-// One confirmation less to come; none stays none.
+// One confirmation less to come; none stays none. Public as it was: initiator takes one off too.
 pub fn less_one(n: u32) -> u32
     ensures { result ≡ n - 1 }
 {

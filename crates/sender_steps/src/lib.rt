@@ -1,4 +1,5 @@
-// The sending port's record, the tests of number 1, and its steps: what an event does once its tests are passed. No entry points: those are in crate sender.
+// The sending port's record, the tests of number 1, and its steps: what an event does once its tests are passed. No
+// entry points: those are in crate sender.
 #![tactic(auto)]
 
 mod confirmation;

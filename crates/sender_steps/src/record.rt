@@ -5,8 +5,8 @@ ghost use Rattle.sender_steps.specs.Record.{holds_of, lent_of, beginning};
 use crate::types::{Burst, Sender};
 use transfer::Transfer;
 
-// Number 1 does not apply: limits, marks and counts are in order. Transfer and burst are copied first: read through `s`,
-// their fields took 7 to 10 instructions a call more (docs/SPEED.md).
+// Number 1 does not apply: limits, marks and counts are in order. Transfer and burst are copied first: read through
+// `s`, their fields took 7 to 10 instructions a call more (docs/SPEED.md).
 #[tactic(auto, unfolding(crate::specs::Record::holds_of, crate::specs::Record::tests))]
 pub fn holds(s: Sender) -> bool
     ensures { result ≡ holds_of s }

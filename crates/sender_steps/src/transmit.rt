@@ -23,7 +23,8 @@ fn data_length(s: Sender) -> u32
     s.transfer.size.min(s.burst.end - s.next)
 }
 
-// The header of the DATA frame at the next offset. Write DATA has its burst's transfer tag, read DATA the transfer's value.
+// The header of the DATA frame at the next offset. Write DATA has its burst's transfer tag, read DATA the transfer's
+// value.
 #[tactic(auto, unfolding(crate::specs::Transmit::data_header, status::specs::Pick::pick))]
 pub fn header(s: Sender) -> Header
     ensures { result ≡ data_header s }
@@ -58,7 +59,8 @@ fn sent(mut s: Sender, n: u32) -> Sender
     s
 }
 
-// A frame is due: it goes out, or the writer refuses it. s changes in place, which saves a copy of the record (docs/SPEED.md).
+// A frame is due: it goes out, or the writer refuses it. s changes in place, which saves a copy of the record
+// (docs/SPEED.md).
 #[tactic(auto, using(crate::proofs::Fits::fits, crate::proofs::Due::due), unfolding(crate::specs::Transmit::frame_of))]
 fn transmit(mut s: Sender, buffer: &[u8], out: &mut [u8]) -> Stepped<Sender>
     requires { (fits_of s (length buffer.now) ≡ true) × (waits_of s ≡ false) }
@@ -92,8 +94,8 @@ fn fits(s: Sender, n: usize) -> bool
         & (s.frames < Sender::FRAMES_END)
 }
 
-// A frame asked for: 1 where next offset, burst or frame count do not fit; wait; the writer's 1 or 3, else a frame of that length.
-// One exit: with early returns the compiler does not build the step into its callers (docs/SPEED.md).
+// A frame asked for: 1 where next offset, burst or frame count do not fit; wait; the writer's 1 or 3, else a frame of
+// that length. One exit: with early returns the compiler does not build the step into its callers (docs/SPEED.md).
 #[tactic(auto, unfolding(crate::specs::Transmit::frame_step_of, status::specs::Pick::pick))]
 pub fn frame_step(s: Sender, buffer: &[u8], out: &mut [u8]) -> Stepped<Sender>
     ensures { (stepped result ≡ frame_step_of s buffer.now out.old) × (out.new ≡ handing (frame_step_of s buffer.now out.old).says (frame_of s buffer.now) out.old) }

@@ -125,7 +125,8 @@ pub(crate) fn set_up<X: Copy>(y: Result<X, Refusal>, s: &mut X) -> CAnswer
     }
 }
 
-// The same answer, field by field: so the compiler keeps the answer of the call before apart from the caller's own (docs/SPEED.md).
+// The same answer, field by field: so the compiler keeps the answer of the call before apart from the caller's own
+// (docs/SPEED.md).
 pub(crate) fn again(a: CAnswer) -> CAnswer
     ensures { result ≡ a }
 {

@@ -35,7 +35,8 @@ fn whole_frame_received(s: &mut Receiver, bytes: &[u8], buffer: &mut [u8]) -> CA
     answer::leave(initiator::read_frame_received(*s, bytes, buffer), s)
 }
 
-// 1, 2, 5, 6, 7, 8; DATA discarded, 20, 21, 22, stored or received; XFER_RDY 23, 24, 27; RESPONSE 32, 34, else what its IU says and where it stands.
+// 1, 2, 5, 6, 7, 8; DATA discarded, 20, 21, 22, stored or received; XFER_RDY 23, 24, 27; RESPONSE 32, 34, else what its
+// IU says and where it stands.
 #[unsafe(no_mangle)]
 pub extern "C" fn ssp_read_initiator_frame_received(
     s: &mut Receiver,

@@ -25,7 +25,8 @@ pub(crate) fn is_next(r: Receiver, bytes: &[u8]) -> bool
         && r.expected == r.filled
 }
 
-// The data goes to its place: a middle part of the buffer is lent on to the copy.
+// The data goes to its place: a middle part of the buffer is lent on to the copy. It is receiver_steps `store` again,
+// which asks for room and so cannot be public (CONTRIBUTING).
 #[tactic(auto, using(frame::proofs::Place::copied_over))]
 fn place(at: usize, iu: &[u8], buffer: &mut [u8])
     requires { at + length iu.now ≤ length buffer.old }

@@ -8,8 +8,9 @@ ghost use Rattle.ssp.specs.ShortSend.{FullDue, Full, Sendable, last_told};
 use crate::types::CAnswer;
 use sender_steps::Sender;
 
-// A frame of the full data size is due, and there is room for it. The last two tests stand here too, so that the compiler drops the writer's (docs/SPEED.md).
-// Joined by `&`: by `&&` a frame asked for in a write takes 12 instructions more.
+// A frame of the full data size is due, and there is room for it. The last two tests stand here too, so that the
+// compiler drops the writer's (docs/SPEED.md). Joined by `&`: by `&&` a frame asked for in a write takes 12
+// instructions more.
 pub(crate) fn is_full_due(s: Sender, room: usize) -> bool
     ensures { result ≡ true → FullDue s room }
 {
@@ -24,7 +25,7 @@ pub(crate) fn is_full_due(s: Sender, room: usize) -> bool
         & (t.size % 4 == 0)
 }
 
-// No frame is due.
+// No frame is due. The same line is private in sender_steps: a public one would be one name more for a step's own test.
 #[tactic(auto, unfolding(sender_steps::specs::Transmit::waits_of))]
 pub(crate) fn waits(s: Sender) -> bool
     ensures { result ≡ waits_of s }

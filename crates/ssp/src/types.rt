@@ -83,7 +83,7 @@ impl CAnswer {
 #[repr(C)]
 #[derive(Clone, Copy)]
 pub struct Header {
-    // the type byte
+    // the type byte, a number as C has it
     pub frametype: u8,
     // hashed addresses, 24 bits each
     pub dest: u32,

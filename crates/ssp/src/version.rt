@@ -10,7 +10,8 @@ pub extern "C" fn ssp_version() -> u32
     10_300
 }
 
-// The interface's number, in its name too: the header names this function, so that only an archive of the same interface links.
+// The interface's number, in its name too: the header names this function, so that only an archive of the same
+// interface links.
 #[unsafe(no_mangle)]
 pub extern "C" fn ssp_interface_4() -> u32
     ensures { result ≡ INTERFACE }

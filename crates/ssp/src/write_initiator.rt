@@ -108,7 +108,8 @@ pub extern "C" fn ssp_write_initiator_nexus_lost(s: &mut Writer) -> CAnswer
     answer::leave(initiator::write_nexus_lost(*s), s)
 }
 
-// 1, 2, 5, 6, 7, 8; XFER_RDY 23, 24, 27, 26, 25, else which burst it is for; RESPONSE 32, 34, else what its IU says and where it stands.
+// 1, 2, 5, 6, 7, 8; XFER_RDY 23, 24, 27, 26, 25, else which burst it is for; RESPONSE 32, 34, else what its IU says and
+// where it stands.
 #[unsafe(no_mangle)]
 pub extern "C" fn ssp_write_initiator_frame_received(s: &mut Writer, bytes: &[u8]) -> CAnswer
     ensures { Leaves (write_arrival_of s.old bytes.now) s.new result }

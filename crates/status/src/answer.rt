@@ -14,14 +14,16 @@ pub struct Part {
 // What a RESPONSE's IU says (request K9).
 #[derive(Clone, Copy)]
 pub struct Opened {
-    // DATAPRES: 0 no data, 1 response data, 2 sense data. A number, since C hands it back and may hand back any (frame `sense_of`).
+    // DATAPRES: 0 no data, 1 response data, 2 sense data. A number, since C hands it back and may hand back any (frame
+    // `sense_of`).
     pub kind: u8,
     pub status: u8,
     // bytes of sense data, from byte 24 of the IU; 0 of kinds 0 and 1
     pub sense: usize,
 }
 
-// A refusal and a failure are answers here and no errors of a Result: the record comes back with every answer (`Stepped`, specs/Answer `says`).
+// A refusal and a failure are answers here and no errors of a Result: the record comes back with every answer
+// (`Stepped`, specs/Answer `says`).
 #[derive(Clone, Copy)]
 pub enum Answer {
     // 1 to 8: nothing changed
@@ -52,7 +54,8 @@ pub enum Answer {
     NextBurstDelivers(u64),
     // an XFER_RDY that repeats the burst taken last was taken
     Repeated,
-    // The command has ended; where the RESPONSE's IU stands in the frame, and what it says. With the frames of the burst in service.
+    // The command has ended; where the RESPONSE's IU stands in the frame, and what it says. With the frames of the
+    // burst in service.
     Response {
         iu: Part,
         opened: Opened,

@@ -1,4 +1,5 @@
-// The words of the paper ("Trade words") and of the requests: eight refusals and fifteen failures, each with its number; and what a call answers.
+// The words of the paper ("Trade words") and of the requests: eight refusals and fifteen failures, each with its
+// number; and what a call answers.
 #![tactic(auto)]
 
 mod answer;

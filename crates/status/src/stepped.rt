@@ -8,7 +8,7 @@ ghost use Rattle.status.specs.declared.stepped.Stepped.{Stepped};
 use crate::answer::Answer;
 use crate::words::Refusal;
 
-// A refusal leaves the record as it was.
+// The record as the call leaves it, and the answer.
 #[derive(Clone, Copy)]
 pub struct Stepped<X> {
     pub left: X,

@@ -46,7 +46,8 @@ fn is_current(x: Target, h: Header) -> bool
     (x.state != Target::NONE) & (h.tptt == x.tptt)
 }
 
-// Behind 1 and 2, DATA that has passed 5 to 7 and the tag: 8 for its transfer tag; discarded until the XFER_RDY's ACK, then the receiving port's.
+// Behind 1 and 2, DATA that has passed 5 to 7 and the tag: 8 for its transfer tag; discarded until the XFER_RDY's ACK,
+// then the receiving port's.
 #[tactic(auto, unfolding(crate::specs::Arrival::taken_of, status::specs::Pick::pick))]
 fn take(x: Target, a: Arrived, bytes: &[u8], buffer: &mut [u8]) -> Stepped<Target>
     requires { (a.start + a.len ≤ length bytes.now) × (lent_of x (length buffer.old) ≡ true) × (x.receiver.ended ≡ false) }
@@ -84,8 +85,8 @@ fn admitted(x: Target, n: usize) -> Result<(), Refusal>
     status::admit(lent(x, n), x.receiver.ended)
 }
 
-// 1, 2, 5, 6, 7, 8 (tag, then TPTT); discarded (no ACK yet); then as the receiving port: discarded (filled), 20, 21, 22, discarded, stored or received.
-// A `match`, since `Stepped::unless` says nothing of a lent buffer.
+// 1, 2, 5, 6, 7, 8 (tag, then TPTT); discarded (no ACK yet); then as the receiving port: discarded (filled), 20, 21,
+// 22, discarded, stored or received. A `match`, since `Stepped::unless` says nothing of a lent buffer.
 #[tactic(auto, unfolding(crate::specs::Arrival::write_arrival_of))]
 pub fn write_frame_received(x: Target, bytes: &[u8], buffer: &mut [u8]) -> Stepped<Target>
     ensures { (stepped result ≡ write_arrival_of x bytes.now (length buffer.old)) × (buffer.new ≡ storing (write_arrival_of x bytes.now (length buffer.old)).says (header_in bytes.now).offset (iu_of bytes.now) buffer.old) }

@@ -1,5 +1,5 @@
-// The target port. A write command: XFER_RDY handed out and resent, its tags, write DATA arrivals, reports of time. A read command: its frames, their confirmations, what arrives.
-// Every function here is an entry point.
+// The target port. A write command: XFER_RDY handed out and resent, its tags, write DATA arrivals, reports of time. A
+// read command: its frames, their confirmations, what arrives. Every function here is an entry point.
 #![tactic(auto)]
 
 mod confirmation;

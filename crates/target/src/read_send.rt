@@ -1,4 +1,5 @@
-// A read's frames asked for at the target and their confirmations: the sending port's, for a read's record; a write's is 1.
+// A read's frames asked for at the target and their confirmations: the sending port's, for a read's record; a write's
+// is 1. Each event of the paper keeps a public name of its own: what differs is its step or its number.
 ghost use Rattle.std.specs.Prelude.{[], ◌≡◌};
 ghost use Rattle.status.specs.Stepped.{stepped};
 ghost use Rattle.frame.specs.Write.{handing};

@@ -20,7 +20,8 @@ pub struct Target {
     pub elapsed: u16,
 }
 
-// Numbers and no enum, since `state` is a byte of the C interface: a caller may put any there, and one above 3 is 1 (specs/Record `holds_of`).
+// Numbers and no enum, since `state` is a byte of the C interface: a caller may put any there, and one above 3 is 1
+// (specs/Record `holds_of`).
 impl Target {
     // none was handed out yet
     pub const NONE: u8 = 0;

@@ -88,7 +88,8 @@ impl Transfer {
             & (!self.write | (self.start == 0))
     }
 
-    // 1, else a transfer within the limits. A read is one burst and does not use `burst`, which keeps its limits all the same.
+    // 1, else a transfer within the limits. A read is one burst and does not use `burst`, which keeps its limits all
+    // the same.
     #[tactic(auto, unfolding(status::specs::Result::granted, status::specs::Pick::pick))]
     pub fn new(
         write: bool,
