@@ -1,4 +1,5 @@
 // The type byte, byte 10, and numbers of several bytes.
+// A slice and a place come side by side: `&b[at..]` would have the same bound.
 ghost use Rattle.std.specs.Prelude.{◌≡◌, ◌+◌, ◌≤◌, ◌%◌, length};
 ghost use Rattle.frame.specs.Format.{is_type, flag_byte, flags_of, field};
 

@@ -1,4 +1,7 @@
 // The frame writer: a data step and a header step.
+// Header, IU and output buffer come side by side, as the public writers take them. `place` asks for room, so no other
+// crate
+// can have it.
 ghost use Rattle.std.specs.Prelude.{◌≡◌, ℕ, ◌+◌, ◌≤◌, List, length};
 ghost use Rattle.status.specs.Result.{or_refusal};
 ghost use Rattle.frame.specs.Format.{fill_of, header_bytes, data_bytes, encode};

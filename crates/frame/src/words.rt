@@ -1,5 +1,6 @@
 // Blocks of bytes, little-endian words, and the copy by blocks. LLVM makes one move of each block or word that is read
 // or put down in this form.
+// A slice and a place, and two slices, come side by side: they are lent apart, with one bound each.
 ghost use Rattle.std.specs.Prelude.{◌≡◌, ◌+◌, ◌-◌, ◌≤◌, ◌<◌, length, take, drop};
 ghost use Rattle.frame.specs.Write.{over, placed};
 ghost use Rattle.frame.specs.Words.{little, word};

@@ -1,4 +1,5 @@
 // A read command at the initiator: arrivals at the receiving end of the transfer.
+// Each event of the paper keeps a public name of its own. A `match` on a class or an arrival is one decision.
 ghost use Rattle.std.specs.Prelude.{◌≡◌, true, false, ◌+◌, ◌≤◌, length, take, drop};
 ghost use Rattle.status.specs.Stepped.{stepped};
 ghost use Rattle.status.specs.Entry.{entry_of};

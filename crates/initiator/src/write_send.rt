@@ -1,5 +1,7 @@
 // A write command's frames asked for, and their confirmations, over the sending port.
 // Each event of the paper keeps a public name of its own: what differs is its step or its number.
+// The tests of a record, what a cut and a retry do to it, and whether a buffer is its own are each port's: no generic
+// is plainer.
 ghost use Rattle.std.specs.Prelude.{◌≡◌, []};
 ghost use Rattle.status.specs.Stepped.{stepped};
 ghost use Rattle.frame.specs.Write.{handing};

@@ -1,4 +1,5 @@
 // Arrivals of any bytes at the initiator of a write command: XFER_RDY and RESPONSE.
+// A `match` on a class, an arrival or a disposition is one decision: closures would say no more.
 ghost use Rattle.std.specs.Prelude.{◌≡◌, true, [], ◌+◌, ◌^◌, ◌≤◌, ◌<◌, ltb, length};
 ghost use Rattle.status.specs.Stepped.{stepped};
 ghost use Rattle.status.specs.Answer.{says};
@@ -183,7 +184,7 @@ fn response(w: Writer, at: Part, iu: &[u8]) -> Stepped<Writer>
     }
 }
 
-// A record that number 1 does not refuse.
+// A record that number 1 does not refuse. Target has one of its own: the ghost facts are two definitions `holds_of`.
 #[derive(Clone, Copy)]
 struct Held {
     writer: Writer,

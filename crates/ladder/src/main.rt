@@ -1,5 +1,6 @@
 // The ladder program: standard input to standard output. All that matters is in `ladder_print::print_ladder`; what was
 // read and written no contract can say.
+// No heap, and fixed memory: the part of a buffer that is in use goes on as a slice.
 #![tactic(auto)]
 
 ghost use Rattle.std.specs.Prelude.{◌≡◌, ◌≤◌, length, take};

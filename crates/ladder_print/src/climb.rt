@@ -1,4 +1,5 @@
 // The lines of a ladder, one below the other.
+// The fates stay bytes: see ladder_run src/fates.rt.
 ghost use Rattle.ladder_run.specs.Whole.{whole_of};
 ghost use Rattle.ladder_print.specs.Text.{whole_text};
 ghost use Rattle.ladder_print.specs.Room.{Tries};

@@ -1,4 +1,5 @@
 // A run file's ladder, with buffers of its own.
+// No heap, and fixed memory: the part of a buffer that is in use goes on as a slice.
 ghost use Rattle.std.specs.Prelude.{◌≡◌, ◌≤◌, length};
 ghost use Rattle.ladder_text.specs.RunFile.{fates_at};
 ghost use Rattle.ladder_run.specs.Row.{FATES-MOST, COUNT-MOST};

@@ -1,4 +1,6 @@
 // The next line of a ladder.
+// The fates stay bytes: see src/fates.rt.
+// A ladder and its fates come side by side, as the public functions take them.
 ghost use Rattle.std.specs.Prelude.{◌≡◌};
 ghost use Rattle.ladder_run.specs.Row.{next_line_by};
 ghost use Rattle.ladder_run.specs.Line.{outcome_of, number_of, verdict_of, lastly, line_of};

@@ -1,4 +1,5 @@
 // The end of a round: "answers come in order, then a timeout if any is missing".
+// The fates stay bytes: see src/fates.rt.
 ghost use Rattle.std.specs.Prelude.{◌≡◌, ◌-◌};
 ghost use Rattle.status.specs.Answer.{says};
 ghost use Rattle.ladder_run.specs.Ends.{told, signalled_of};

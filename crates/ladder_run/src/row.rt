@@ -1,4 +1,6 @@
 // One frame handed out, and its fate.
+// The fates stay bytes: see src/fates.rt.
+// No heap, and fixed memory: the part of a buffer that is in use goes on as a slice.
 ghost use Rattle.std.specs.Prelude.{◌≡◌, ◌<◌};
 ghost use Rattle.status.specs.Answer.{says};
 ghost use Rattle.frame.specs.Read.{decode};

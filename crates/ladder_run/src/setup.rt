@@ -1,4 +1,5 @@
 // Both ends set up.
+// No heap, and fixed memory: the part of a buffer that is in use goes on as a slice.
 ghost use Rattle.std.specs.Prelude.{◌≡◌};
 ghost use Rattle.status.specs.Result.{or_refusal};
 ghost use Rattle.ladder_run.specs.Setup.{transfer_of, fresh, exchanged, ready_set_up, set_up_of};

@@ -5,7 +5,7 @@ ghost use Rattle.ladder_text.specs.Words.{named, all_directions, all_fates, all_
 use crate::decimal;
 use crate::types::{Direction, Fate, Outcome, Receipt};
 
-// A value that a word stands for.
+// A value that a word stands for. Its impls have one shape.
 pub(crate) trait Word: Copy + 'static {
     ghost word: { Self → List ℕ };
 

@@ -1,4 +1,6 @@
 // One DATA frame that has passed 5 to 8, once 1 and 2 are tested.
+// `offset` and `cdp` come side by side, as the public `data_step` takes them. The `match` on a disposition lends the
+// buffer on.
 ghost use Rattle.std.specs.Prelude.{◌≡◌, ◌+◌, ◌^◌, ◌≤◌, ◌<◌, length};
 ghost use Rattle.status.specs.Stepped.{stepped};
 ghost use Rattle.frame.specs.Write.{placed};

@@ -1,4 +1,6 @@
 // The RESPONSE asked for.
+// The tests of a record, what a cut and a retry do to it, and whether a buffer is its own are each port's: no generic
+// is plainer.
 ghost use Rattle.std.specs.Prelude.{◌≡◌, true, length};
 ghost use Rattle.status.specs.Stepped.{stepped};
 ghost use Rattle.frame.specs.Write.{handing};

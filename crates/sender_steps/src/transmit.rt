@@ -1,4 +1,5 @@
 // A frame asked for, once 1 and 2 are tested.
+// `waits` stands once more in ssp, for the short paths: a public one would be one name more for a step's own test.
 ghost use Rattle.std.specs.Prelude.{◌≡◌, true, false, length, ◌+◌, ◌^◌, ◌≤◌, ◌<◌};
 ghost use Rattle.status.specs.Stepped.{stepped};
 ghost use Rattle.frame.specs.Write.{handing};

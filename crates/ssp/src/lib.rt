@@ -1,7 +1,7 @@
 // The library for C: each port in place, over a record that the caller lends. A lent slice is a pointer and a length. C
 // owes what the contracts take as given: pointers to whole records and buffers of those lengths, no two of which
 // overlap in one call, and bools that are 0 or 1. Each export is a name of the C interface, so exports of one shape
-// stay, each a line over one generic where it has no short path.
+// stay: those are one line each.
 #![tactic(auto)]
 
 mod answer;

@@ -102,7 +102,7 @@ pub struct Header {
     pub offset: u32,
 }
 
-// An XFER_RDY's IU.
+// An XFER_RDY's IU: the struct of ssp.h, beside frame's own.
 #[repr(C)]
 #[derive(Clone, Copy)]
 pub struct XferRdy {

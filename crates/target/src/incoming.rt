@@ -1,4 +1,6 @@
 // Arrivals of any bytes in a write command: the target takes DATA.
+// The tests of a record, what a cut and a retry do to it, and whether a buffer is its own are each port's: no generic
+// is plainer.
 ghost use Rattle.std.specs.Prelude.{◌≡◌, true, false, length, take, drop, ◌+◌, ◌≤◌};
 ghost use Rattle.status.specs.Stepped.{stepped};
 ghost use Rattle.status.specs.Entry.{entry_of};

@@ -21,7 +21,7 @@ fn is_due(x: Target) -> bool
             & (x.receiver.end < x.receiver.transfer.count))
 }
 
-// A record that number 1 does not refuse.
+// A record that number 1 does not refuse. Initiator has one of its own: the ghost facts are two definitions `holds_of`.
 #[derive(Clone, Copy)]
 struct Held {
     target: Target,

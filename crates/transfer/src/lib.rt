@@ -7,6 +7,8 @@ ghost use Rattle.transfer.specs.Limits.{past, limits_hold, made_of};
 
 use status::Refusal;
 
+// C interface: this is the record of ssp.h, so `value` stands beside `sas2`, and an `irt` of 0 is off, in place of an
+// Option.
 #[repr(C)]
 #[derive(Clone, Copy)]
 pub struct Transfer {
