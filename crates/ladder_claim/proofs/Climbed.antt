@@ -1,6 +1,6 @@
 -- Line after line, a ladder stands where link events have led, until it is over: then its last round is closed.
 use Prim.Native.Nat.{ℕ, ◌+◌, ◌<◌}
-use mathlib.Core.List.{List, [], ◌∷◌}
+use mathlib.Core.List.{List, [], ◌∷◌, ◌++◌}
 use mathlib.Core.Path.{◌≡◌, subst}
 use lib.ListN.{length}
 use Rattle.std.specs.Prelude.{Option, Some, None}
@@ -47,9 +47,9 @@ module _ {P : Ports} (E : Embeds P) (start : World P) (end : ℕ) (fills : Fills
           let q = shut C fs d sent l v b e in
           wait_idle w.s d area (lent C fs d sent l v b) w.on.live q.0 q.1 E g.s (subst (λ (x : Sending). SendsAs x w.s) g.sending w.sends) g.r b g.confirmations g.tally g.handed (on_link l.report))
 
-  -- the whole ladder x at its verdict
-  abbrev pub Over : Whole → Type 0
-  Over x = (x.last.before ≡ x.last.frames) × On x.last x.received x.rows
+  -- the whole ladder x behind these rows, at its verdict
+  abbrev pub Over : List Row → Whole → Type 0
+  Over rows x = (x.last.before ≡ x.last.frames) × On x.last x.received (rows ++ x.rows)
 
-  pub climb_stands : (k : ℕ) (l : Ladder) (b : List ℕ) → Live C l → ROWS-MOST < k + l.frames → On l b [] → Over (climb k fs d l b)
-  climb_stands k l b v h g = let c = climbs C fs d lists sent On Waits asks (closed_stands E start end fills fs d) k l b [] v h g in (c.over, c.stands)
+  pub climb_stands : (k : ℕ) (l : Ladder) (b : List ℕ) (rows : List Row) → Live C l → ROWS-MOST < k + l.frames → On l b rows → Over rows (climb k fs d l b)
+  climb_stands k l b rows v h g = let c = climbs C fs d lists sent On Waits asks (closed_stands E start end fills fs d) k l b rows v h g in (c.over, c.stands)

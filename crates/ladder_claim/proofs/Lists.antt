@@ -67,8 +67,8 @@ module _ {P : Ports} (E : Embeds P) (r : Run) (s : P.Sending) (y : P.Receiving) 
       }
 
   module _ (k : ℕ) (enough : ROWS-MOST < k) where
-    at_last : Over E (delivers.fresh P s y d b) r.count o.fills o.course fs d o.lists o.sent (climbed k)
-    at_last = climb_stands E _ r.count o.fills o.course fs d o.lists o.sent k _ b o.live (omega arith) first_stands
+    at_last : Over E (delivers.fresh P s y d b) r.count o.fills o.course fs d o.lists o.sent [] (climbed k)
+    at_last = climb_stands E _ r.count o.fills o.course fs d o.lists o.sent k _ b [] o.live (omega arith) first_stands
 
     pub stands : Stands E (delivers.fresh P s y d b) r.count fs d (climbed k).last (climbed k).received (climbed k).rows []
     stands = at_last.1

@@ -23,7 +23,7 @@ use Rattle.ladder_print.specs.Text.{bytes_from, data_of, whole_text, start_text}
 use Rattle.ladder_print.proofs.Behind.{Front, front_none, front_length, front_more, front_taken}
 
 -- ── the bytes sent ──
-bytes_length : (i n : ℕ) → length (bytes_from i n) ≡ n
+pub bytes_length : (i n : ℕ) → length (bytes_from i n) ≡ n
 bytes_length i zero = refl
 bytes_length i (suc n) = ap suc (bytes_length (i + 1) n)
 

@@ -36,6 +36,9 @@ pub fn print_ladder(input: &[u8], out: &mut [u8]) -> Option<usize>
 fn whole(input: &[u8], out: &mut [u8]) -> Option<usize>
     ensures { Tries (text_of input.now) out.old result out.new }
 {
+    if out.len() < ROOM {
+        return None;
+    }
     match run::start(input) {
         Ok(s) => run::from_start_if_room(s, out),
         Err(m) => refuse(m, out),

@@ -10,7 +10,8 @@ use borrow.Author.Tests.{eqb-true}
 use Rattle.ladder_text.specs.Text.{fields, joined}
 use Rattle.ladder_text.specs.Decimal.{decimal}
 use Rattle.ladder_text.specs.Words.{MOST}
-use Rattle.ladder_text.specs.Rows.{field_at, number_at, given, Quad, quad_at}
+use Rattle.ladder_text.specs.Rows.{field_at, number_at, given, quad_at}
+use Rattle.ladder_text.specs.declared.types.Quad.{Quad}
 use Rattle.ladder_text.proofs.Numbers.{numbers}
 use Rattle.ladder_text.proofs.Joined.{fields_print_again}
 

@@ -12,7 +12,8 @@ use Rattle.ladder_text.specs.Pick.{pick}
 use Rattle.ladder_text.specs.Text.{LF, TAB, fields, joined, free, all_free}
 use Rattle.ladder_text.specs.Decimal.{decimal}
 use Rattle.ladder_text.specs.Words.{MOST, fate_word, fate_of, receipt_word, receipt_of, outcome_word, outcome_of, refused_word}
-use Rattle.ladder_text.specs.Rows.{field_at, number_at, Quad, quad_at, row_text, row_from, row_of, verdict_text, verdict_from, verdict_of, ladder_lines, refused_text, refused_of}
+use Rattle.ladder_text.specs.Rows.{field_at, number_at, quad_at, row_text, row_from, row_of, verdict_text, verdict_from, verdict_of, ladder_lines, refused_text, refused_of}
+use Rattle.ladder_text.specs.declared.types.Quad.{Quad}
 use Rattle.ladder_text.specs.Laws.{RowFits, Rows, VerdictFits, Verdicts, Refusals, LaddersReadBack}
 use Rattle.ladder_text.specs.declared.types.Fate.{Fate}
 use Rattle.ladder_text.specs.declared.types.Receipt.{Receipt}

@@ -12,7 +12,8 @@ use Rattle.ladder_text.specs.Pick.{pick}
 use Rattle.ladder_text.specs.Text.{TAB, fields, free}
 use Rattle.ladder_text.specs.Decimal.{decimal}
 use Rattle.ladder_text.specs.Words.{direction_word, direction_of}
-use Rattle.ladder_text.specs.Rows.{field_at, limits, within_limits, run_from, run_of, run_text, Quad, quad_at}
+use Rattle.ladder_text.specs.Rows.{field_at, limits, within_limits, run_from, run_of, run_text, quad_at}
+use Rattle.ladder_text.specs.declared.types.Quad.{Quad}
 use Rattle.ladder_text.specs.Laws.{Runs}
 use Rattle.ladder_text.specs.declared.types.Direction.{Direction}
 use Rattle.ladder_text.specs.declared.types.Run.{Run}

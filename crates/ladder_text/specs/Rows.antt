@@ -4,6 +4,7 @@ use Rattle.ladder_text.specs.Pick.{pick, all}
 use Rattle.ladder_text.specs.Text.{fields, joined, unlines}
 use Rattle.ladder_text.specs.Decimal.{decimal, number_of}
 use Rattle.ladder_text.specs.Words.{MOST, direction_word, direction_of, fate_word, fate_of, receipt_word, receipt_of, outcome_word, outcome_of, refused_word}
+use Rattle.ladder_text.specs.declared.types.Quad.{Quad}
 use Rattle.ladder_text.specs.declared.types.Direction.{Direction}
 use Rattle.ladder_text.specs.declared.types.Fate.{Fate}
 use Rattle.ladder_text.specs.declared.types.Receipt.{Receipt}
@@ -26,13 +27,6 @@ number_at l i = number_of MOST (field_at l i)
 -- go on with what was read, where it fits
 abbrev pub given : {A B : Type 0} → Option A → (A → Option B) → Option B
 given x go = option_and_then go x
-
--- four numbers side by side
-pub record Quad : Type 0 where
-  pub a : ℕ
-  pub b : ℕ
-  pub c : ℕ
-  pub d : ℕ
 
 -- four numbers, in the fields of a line from i on
 unfoldable pub quad_at : List ℕ → ℕ → Option Quad

@@ -1,5 +1,14 @@
 // The words and numbers of run files and ladders, and what their readers answer.
 
+// Four numbers side by side, as specs/Rows has them.
+#[derive(Clone, Copy, Debug, PartialEq, Eq)]
+pub struct Quad {
+    pub a: u32,
+    pub b: u32,
+    pub c: u32,
+    pub d: u32,
+}
+
 #[derive(Clone, Copy, Debug, PartialEq, Eq)]
 pub enum Direction {
     Read,

@@ -13,6 +13,8 @@ use crate::types::Target;
 use status::{Answer, Failure, Refusal, Stepped};
 
 // 1, 2, then 4.
+// Built into each caller: apart, the record is copied for it (docs/SPEED.md).
+#[inline(always)]
 #[tactic(auto, unfolding(crate::specs::Confirmation::confirms_of))]
 fn confirmable(x: Target) -> Result<(), Refusal>
     ensures { result ≡ confirms_of x }
@@ -63,6 +65,8 @@ pub fn write_ack_received(x: Target) -> Stepped<Target>
 }
 
 // 1, 2, 4; retry, or the failure with that cause.
+// Built into each caller, as `confirmable` is.
+#[inline(always)]
 fn unconfirmed(x: Target, cause: Failure) -> Stepped<Target>
     ensures { stepped result ≡ unless (confirms_of x) x (retry_of x (failure_number cause)) }
 {
